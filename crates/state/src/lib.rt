@@ -1,0 +1,35 @@
+// What a run keeps between calls.
+pub mod limits;
+pub mod refusals;
+pub mod stashes;
+pub mod sums;
+
+// A refusal's number and line; number 0 is none.
+#[repr(C)]
+pub struct Refusal {
+    pub number: usize,
+    pub line: usize,
+}
+
+// The lengths in bytes of the list, the image and the two areas.
+#[repr(C)]
+pub struct Lengths {
+    pub list: usize,
+    pub image: usize,
+    pub stash: usize,
+    pub work: usize,
+}
+
+// The stashes held, oldest first, 20 hash bytes and a number of blocks each, and how many they are. The current line's number and where
+// it starts in the text. The bytes into a `new`. The refusal, if any. The lengths at opening.
+#[repr(C)]
+pub struct State {
+    pub hashes: [u8; 1280],
+    pub sizes: [usize; 64],
+    pub count: usize,
+    pub line: usize,
+    pub at: usize,
+    pub into: usize,
+    pub refusal: Refusal,
+    pub lengths: Lengths,
+}

@@ -1,0 +1,53 @@
+-- `hex_digit` meets its contract, by the cases of `digitOf`.
+-- Assumes nothing.
+use mathlib.Core.Path.{_≡_, sym}
+use Prim.Native.Nat.{ℕ, _-_, _≤_, _<_}
+use native.Mathlib.Omega.{arith}
+use borrow.Author.Needs.{needs}
+use borrow.Author.Tests.{le-leb, lt-leb}
+use Rattle.text.specs.declared.hash.Digit.the-variants.{Value, Other}
+use Rattle.text.specs.Hash.{digitOf}
+use Rattle.text.proofs.hash.hex_digit.Statement.{statement}
+use Rattle.text.proofs.hash.hex_digit.Tie as tie
+
+module _ (b : ℕ) where
+  of-digit : 48 ≤ b → b ≤ 57 → digitOf b ≡ Value (b - 48)
+  unfolding digitOf
+  of-digit l m = simp (le-leb 48 b l, le-leb b 57 m)
+
+  of-letter : 97 ≤ b → b ≤ 102 → digitOf b ≡ Value (b - 87)
+  unfolding digitOf
+  of-letter l m = simp (le-leb 48 b (omega arith), lt-leb b 57 (omega arith), le-leb 97 b l, le-leb b 102 m)
+
+  of-low : b < 48 → digitOf b ≡ Other
+  unfolding digitOf
+  of-low l = simp (lt-leb 48 b l, lt-leb 97 b (omega arith))
+
+  of-between : 57 < b → b < 97 → digitOf b ≡ Other
+  unfolding digitOf
+  of-between l m = simp (le-leb 48 b (omega arith), lt-leb b 57 l, lt-leb 97 b m)
+
+  of-high : 102 < b → digitOf b ≡ Other
+  unfolding digitOf
+  of-high l = simp (le-leb 48 b (omega arith), lt-leb b 57 (omega arith), le-leb 97 b (omega arith), lt-leb b 102 l)
+
+sub-t5 : tie.Need-sub-t5
+sub-t5 c = search needs
+
+returns : tie.Need-returns
+returns c = sym (of-digit _ (omega arith) (omega arith))
+
+returns-2 : tie.Need-returns-2
+returns-2 c = sym (of-letter _ (omega arith) (omega arith))
+
+returns-3 : tie.Need-returns-3
+returns-3 c = sym (of-low _ (omega arith))
+
+returns-4 : tie.Need-returns-4
+returns-4 c = sym (of-between _ (omega arith) (omega arith))
+
+returns-5 : tie.Need-returns-5
+returns-5 c = sym (of-high _ (omega arith))
+
+pub hex-digit-spec : {M : Type 1} → statement M
+hex-digit-spec = tie.close (tie.spec sub-t5 returns returns-2 returns-3 returns-4 returns-5)

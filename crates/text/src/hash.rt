@@ -1,0 +1,80 @@
+// Hashes: 40 hexadecimal digits in lower case.
+ghost use mathlib.Core.Path.{_≡_};
+ghost use Rattle.text.specs.Hash.{digitOf, digitAt, octetAt, hashAt};
+use crate::mark::Mark;
+
+pub enum Digit {
+    Value(u8),
+    Other,
+}
+
+// A byte of two digits, or the position of the fault.
+pub enum Octet {
+    Good(u8),
+    Bad(usize),
+}
+
+// The bytes, zero where the reading failed, beside how it went.
+pub struct Hash {
+    pub read: Mark,
+    pub bytes: [u8; 20],
+}
+
+pub fn hex_digit(b: u8) -> Digit
+    ensures { λ r. ⌜ r ≡ digitOf b ⌝ }
+{
+    match b {
+        b'0'..=b'9' => Digit::Value(b - b'0'),
+        b'a'..=b'f' => Digit::Value(b - 87),
+        _ => Digit::Other,
+    }
+}
+
+pub fn digit_at(s: &[u8], i: usize) -> Digit
+    ensures { λ r. ⌜ r ≡ digitAt (now (s .entry)) i ⌝ }
+{
+    if i < s.len() {
+        hex_digit(s[i])
+    } else {
+        Digit::Other
+    }
+}
+
+pub fn octet_at(s: &[u8], i: usize) -> Octet
+    ensures { λ r. ⌜ r ≡ octetAt (now (s .entry)) i ⌝ }
+{
+    match digit_at(s, i) {
+        Digit::Other => Octet::Bad(i),
+        Digit::Value(high) => match digit_at(s, i + 1) {
+            Digit::Other => Octet::Bad(i + 1),
+            Digit::Value(low) => Octet::Good(high * 16 + low),
+        },
+    }
+}
+
+pub fn read_hash(s: &[u8], at: usize) -> Hash
+    ensures { λ r. ⌜ r ≡ hashAt (now (s .entry)) at ⌝ }
+{
+    let mut bytes = [0u8; 20];
+    let mut i = at;
+    let mut k = 0;
+    while k < 20 {
+        match octet_at(s, i) {
+            Octet::Bad(p) => {
+                return Hash {
+                    read: Mark::Bad(p),
+                    bytes: [0u8; 20],
+                };
+            }
+            Octet::Good(v) => {
+                bytes[k] = v;
+                i += 2;
+                k += 1;
+            }
+        }
+    }
+    Hash {
+        read: Mark::Past(i),
+        bytes,
+    }
+}

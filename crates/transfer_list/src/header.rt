@@ -1,0 +1,144 @@
+// The header of a transfer list.
+ghost use mathlib.Core.Path.{_≡_};
+ghost use Rattle.transfer_list.specs.Header.{headerLineAt, headerOf, isArea, areAreas, headerRefusal, startRefusal};
+use state::Lengths;
+use state::Refusal;
+use state::limits::BLOCK_BYTES;
+use state::limits::MOST_AREA_BLOCKS;
+use state::limits::MOST_IMAGE_BLOCKS;
+use state::limits::MOST_LIST_BYTES;
+use state::limits::MOST_STASHES;
+use state::refusals::AREA_SIZE;
+use state::refusals::HEADER_FORM;
+use state::refusals::HEADER_LIMIT;
+use state::refusals::LIST_LENGTH;
+use state::refusals::VERSION;
+use text::mark::Mark;
+use text::mark::read_mark;
+use text::number::Number;
+use text::number::read_number;
+
+// The version, the blocks of new data, the most stashes and the most blocks held at once, and where the command lines start.
+pub struct Header {
+    pub version: u32,
+    pub fresh: u32,
+    pub stashes: u32,
+    pub blocks: u32,
+    pub first: usize,
+}
+
+// A header, or the line that is at fault.
+pub enum HeaderRead {
+    Good(Header),
+    Bad(usize),
+}
+
+// A number and an LF.
+fn read_header_line(s: &[u8], at: usize) -> Number
+    ensures { λ r. ⌜ r ≡ headerLineAt (now (s .entry)) at ⌝ }
+{
+    match read_number(s, at) {
+        Number::Bad(p) => Number::Bad(p),
+        Number::Good(v, i) => match read_mark(s, i, b'\n') {
+            Mark::Bad(p) => Number::Bad(p),
+            Mark::Past(next) => Number::Good(v, next),
+        },
+    }
+}
+
+pub fn read_header(s: &[u8]) -> HeaderRead
+    ensures { λ r. ⌜ r ≡ headerOf (now (s .entry)) ⌝ }
+{
+    let Number::Good(version, i) = read_header_line(s, 0) else {
+        return HeaderRead::Bad(1);
+    };
+    let Number::Good(fresh, j) = read_header_line(s, i) else {
+        return HeaderRead::Bad(2);
+    };
+    let Number::Good(stashes, k) = read_header_line(s, j) else {
+        return HeaderRead::Bad(3);
+    };
+    let Number::Good(blocks, first) = read_header_line(s, k) else {
+        return HeaderRead::Bad(4);
+    };
+    HeaderRead::Good(Header {
+        version,
+        fresh,
+        stashes,
+        blocks,
+        first,
+    })
+}
+
+// Whole blocks, and not over the most.
+fn is_area(most: usize, bytes: usize) -> bool
+    ensures { λ r. ⌜ r ≡ isArea most bytes ⌝ }
+{
+    if bytes % BLOCK_BYTES != 0 {
+        return false;
+    }
+    bytes / BLOCK_BYTES <= most
+}
+
+fn are_areas(lengths: Lengths) -> bool
+    ensures { λ r. ⌜ r ≡ areAreas lengths ⌝ }
+{
+    if !is_area(MOST_IMAGE_BLOCKS, lengths.image) {
+        return false;
+    }
+    if !is_area(MOST_AREA_BLOCKS, lengths.stash) {
+        return false;
+    }
+    is_area(MOST_AREA_BLOCKS, lengths.work)
+}
+
+fn check_header(lengths: Lengths, read: HeaderRead) -> Refusal
+    ensures { λ r. ⌜ r ≡ headerRefusal lengths read ⌝ }
+{
+    match read {
+        HeaderRead::Bad(line) => Refusal {
+            number: HEADER_FORM,
+            line,
+        },
+        HeaderRead::Good(h) => {
+            if h.version != 3 {
+                return Refusal {
+                    number: VERSION,
+                    line: 1,
+                };
+            }
+            if MOST_STASHES < h.stashes as usize {
+                return Refusal {
+                    number: HEADER_LIMIT,
+                    line: 3,
+                };
+            }
+            if lengths.stash / BLOCK_BYTES < h.blocks as usize {
+                return Refusal {
+                    number: HEADER_LIMIT,
+                    line: 4,
+                };
+            }
+            Refusal { number: 0, line: 0 }
+        }
+    }
+}
+
+// What is refused before the first command line; number 0 for nothing.
+pub fn check_start(s: &[u8], lengths: Lengths) -> Refusal
+    ensures { λ r. ⌜ r ≡ startRefusal (now (s .entry)) lengths ⌝ }
+{
+    if !are_areas(lengths) {
+        return Refusal {
+            number: AREA_SIZE,
+            line: 0,
+        };
+    }
+    if MOST_LIST_BYTES < s.len() {
+        return Refusal {
+            number: LIST_LENGTH,
+            line: 0,
+        };
+    }
+    check_header(lengths, read_header(s))
+}

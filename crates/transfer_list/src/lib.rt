@@ -1,0 +1,183 @@
+// Opening a transfer list: the whole text is checked before anything is run.
+ghost use mathlib.Core.Path.{_≡_};
+ghost use mathlib.Core.List.{[]};
+ghost use Prim.Native.Nat.{suc, _≤_};
+ghost use lib.ListN.{length};
+ghost use Rattle.state.specs.Limits.{mostListBytes, mostStashes};
+ghost use Rattle.state.specs.Stashes.{held};
+ghost use Rattle.transfer_list.specs.Opening.{limitsOf, countedBlocks, heldAfter, firstLine, linesRefusal, openRefusal, lengthsOf, openState, stateAt};
+use crate::header::Header;
+use crate::header::HeaderRead;
+use crate::header::check_start;
+use crate::header::read_header;
+use command::Command;
+use command::Line;
+use rules::Limits;
+use rules::check_line;
+use state::Lengths;
+use state::Refusal;
+use state::State;
+use state::limits::BLOCK_BYTES;
+use state::refusals::NEW_TOTAL;
+use state::stashes::Found;
+use state::stashes::find_stash;
+use state::stashes::hold;
+use state::stashes::release;
+use state::sums::bounded_sum;
+use text::line::line_at;
+
+pub mod header;
+
+// What a line is checked against.
+pub fn limits_of(lengths: Lengths, h: Header) -> Limits
+    ensures { λ r. ⌜ r ≡ limitsOf lengths h ⌝ }
+{
+    Limits {
+        image: lengths.image / BLOCK_BYTES,
+        work: lengths.work / BLOCK_BYTES,
+        stashes: h.stashes,
+        blocks: h.blocks,
+    }
+}
+
+// The blocks of a command that line 2 counts.
+fn counted_blocks(command: Command) -> usize
+    ensures { λ r. ⌜ r ≡ countedBlocks command ⌝ }
+{
+    match command {
+        Command::New(set) => set.blocks,
+        Command::Zero(_) => 0,
+        Command::Move {
+            target: _,
+            length: _,
+            source: _,
+        } => 0,
+        Command::Stash(_) => 0,
+        Command::Free => 0,
+        Command::Patch => 0,
+        Command::Bad(_) => 0,
+    }
+}
+
+// A state at a line, with nothing held.
+fn state_at(line: usize, at: usize, refusal: Refusal, lengths: Lengths) -> State
+    ensures { λ r. ⌜ r ≡ stateAt line at refusal lengths ⌝ }
+{
+    State {
+        hashes: [0u8; 1280],
+        sizes: [0usize; 64],
+        count: 0,
+        line,
+        at,
+        into: 0,
+        refusal,
+        lengths,
+    }
+}
+
+// The state with what is held after a command, for which there is room.
+fn hold_after(s: State, line: Line) -> State
+    requires { ⌜ (s .count ≤ mostStashes) × (length (heldAfter (held s) (line .hash) (line .command)) ≤ mostStashes) ⌝ }
+    ensures { λ r. ⌜ (r .count ≤ mostStashes) × (held r ≡ heldAfter (held s) (line .hash) (line .command)) ⌝ }
+{
+    let command = line.command;
+    let hash = line.hash;
+    match command {
+        Command::Stash(set) => hold(s, hash, set.blocks),
+        Command::Free => match find_stash(s, hash) {
+            Found::At(j) => release(s, j),
+            Found::Nothing => s,
+        },
+        Command::Zero(_) => s,
+        Command::New(_) => s,
+        Command::Move {
+            target: _,
+            length: _,
+            source: _,
+        } => s,
+        Command::Patch => s,
+        Command::Bad(_) => s,
+    }
+}
+
+// The command lines, top to bottom.
+fn check_lines(list: &[u8], limits: Limits, h: Header) -> Refusal
+    requires { ⌜ (length (now list) ≤ mostListBytes) × (limits .stashes ≤ mostStashes) ⌝ }
+    ensures { λ r. ⌜ r ≡ linesRefusal (suc (length (now (list .entry)))) (now (list .entry)) limits h firstLine (h .first) [] 0 ⌝ }
+{
+    let nothing = Refusal { number: 0, line: 0 };
+    let lengths = Lengths {
+        list: 0,
+        image: 0,
+        stash: 0,
+        work: 0,
+    };
+    let mut s = state_at(0, 0, nothing, lengths);
+    let mut line: usize = 5;
+    let mut at = h.first;
+    let mut fresh: usize = 0;
+    while at < list.len() {
+        let l = line_at(list, at);
+        let checked = check_line(l, limits, s);
+        if checked.refusal != 0 {
+            return Refusal {
+                number: checked.refusal,
+                line,
+            };
+        }
+        let read = checked.line;
+        let command = read.command;
+        s = hold_after(s, read);
+        fresh = bounded_sum(fresh, counted_blocks(command));
+        at = at + l.len();
+        line = line + 1;
+    }
+    if fresh != h.fresh as usize {
+        return Refusal {
+            number: NEW_TOTAL,
+            line: 2,
+        };
+    }
+    Refusal { number: 0, line: 0 }
+}
+
+// The refusal of an opening; number 0 for an accepted one.
+fn check_list(list: &[u8], lengths: Lengths) -> Refusal
+    ensures { λ r. ⌜ r ≡ openRefusal (now (list .entry)) lengths ⌝ }
+{
+    let start = check_start(list, lengths);
+    if start.number != 0 {
+        return start;
+    }
+    match read_header(list) {
+        HeaderRead::Bad(_) => Refusal { number: 0, line: 0 },
+        HeaderRead::Good(h) => check_lines(list, limits_of(lengths, h), h),
+    }
+}
+
+// Opens a list over an image, a stash area and a work area of the given lengths in bytes. The state holds the refusal, if any.
+pub fn open(list: &[u8], image: usize, stash: usize, work: usize) -> State
+    ensures { λ r. ⌜ r ≡ openState (now (list .entry)) (lengthsOf (now (list .entry)) image stash work) ⌝ }
+{
+    let lengths = Lengths {
+        list: list.len(),
+        image,
+        stash,
+        work,
+    };
+    let refusal = check_list(list, lengths);
+    if refusal.number != 0 {
+        let none = Lengths {
+            list: 0,
+            image: 0,
+            stash: 0,
+            work: 0,
+        };
+        return state_at(0, 0, refusal, none);
+    }
+    let nothing = Refusal { number: 0, line: 0 };
+    match read_header(list) {
+        HeaderRead::Bad(_) => state_at(5, 0, nothing, lengths),
+        HeaderRead::Good(h) => state_at(5, h.first, nothing, lengths),
+    }
+}

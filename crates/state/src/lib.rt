@@ -1,4 +1,7 @@
 // What a run keeps between calls.
+use crate::limits::MOST_STASHES;
+use crate::limits::TABLE_BYTES;
+
 pub mod limits;
 pub mod refusals;
 pub mod stashes;
@@ -24,8 +27,8 @@ pub struct Lengths {
 // it starts in the text. The bytes into a `new`. The refusal, if any. The lengths at opening.
 #[repr(C)]
 pub struct State {
-    pub hashes: [u8; 1280],
-    pub sizes: [usize; 64],
+    pub hashes: [u8; TABLE_BYTES],
+    pub sizes: [usize; MOST_STASHES],
     pub count: usize,
     pub line: usize,
     pub at: usize,

@@ -4,11 +4,12 @@ ghost use mathlib.Core.List.{List};
 ghost use Prim.Native.Nat.{ℕ, _+_, _-_, _*_, _≤_, _<_, min};
 ghost use lib.ListN.{length, take, drop};
 ghost use lib.Seq.{paste};
-ghost use Rattle.state.specs.Limits.{mostStashes};
+ghost use Rattle.state.specs.Limits.{mostStashes, tableBytes};
 ghost use Rattle.state.specs.Stashes.{entries, held, same, findIn, isHeld, heldTwice, sizeAt, blocksHeld, holding, releasing};
 ghost use Rattle.state.specs.Sums.{bounded};
 use crate::State;
 use crate::limits::MOST_STASHES;
+use crate::limits::TABLE_BYTES;
 use crate::sums::bounded_sum;
 
 // Where a stash is among those held.
@@ -139,8 +140,8 @@ pub fn hold(s: State, hash: [u8; 20], blocks: usize) -> State
     next
 }
 
-fn down_bytes(a: &mut [u8; 1280], to: usize, from: usize, n: usize)
-    requires { ⌜ (to ≤ from) × (from + n ≤ 1280) × (length (now a) ≡ 1280) ⌝ }
+fn down_bytes(a: &mut [u8; TABLE_BYTES], to: usize, from: usize, n: usize)
+    requires { ⌜ (to ≤ from) × (from + n ≤ tableBytes) × (length (now a) ≡ tableBytes) ⌝ }
     ensures { λ _. ⌜ now (a .exit) ≡ paste (now (a .entry)) to (drop from (now (a .entry))) n ⌝ }
 {
     let mut i = 0;
@@ -150,8 +151,8 @@ fn down_bytes(a: &mut [u8; 1280], to: usize, from: usize, n: usize)
     }
 }
 
-fn down_words(a: &mut [usize; 64], to: usize, from: usize, n: usize)
-    requires { ⌜ (to ≤ from) × (from + n ≤ 64) × (length (now a) ≡ 64) ⌝ }
+fn down_words(a: &mut [usize; MOST_STASHES], to: usize, from: usize, n: usize)
+    requires { ⌜ (to ≤ from) × (from + n ≤ mostStashes) × (length (now a) ≡ mostStashes) ⌝ }
     ensures { λ _. ⌜ now (a .exit) ≡ paste (now (a .entry)) to (drop from (now (a .entry))) n ⌝ }
 {
     let mut i = 0;

@@ -8,7 +8,7 @@ use lib.ListN.{length, replicate}
 use lib.Dec.{leb, ltb, eqb}
 use Rattle.text.specs.Choice.{pick}
 use Rattle.text.specs.Line.{lineAt}
-use Rattle.state.specs.Limits.{blockBytes}
+use Rattle.state.specs.Limits.{blockBytes, mostStashes, tableBytes}
 use Rattle.state.specs.Refusals.{none, newTotal}
 use Rattle.state.specs.Stashes.{Stash, findIn, without}
 use Rattle.state.specs.declared.stashes.Found.{Found}
@@ -92,8 +92,8 @@ firstAt (Bad line) = 0
 abbrev pub stateAt : ℕ → ℕ → Refusal → Lengths → State
 stateAt line at refused lengths =
     record {
-      hashes = replicate 1280 0;
-      sizes = replicate 64 0;
+      hashes = replicate tableBytes 0;
+      sizes = replicate mostStashes 0;
       count = 0;
       line = line;
       at = at;

@@ -18,6 +18,8 @@ use state::Lengths;
 use state::Refusal;
 use state::State;
 use state::limits::BLOCK_BYTES;
+use state::limits::MOST_STASHES;
+use state::limits::TABLE_BYTES;
 use state::refusals::NEW_TOTAL;
 use state::stashes::Found;
 use state::stashes::find_stash;
@@ -64,8 +66,8 @@ fn state_at(line: usize, at: usize, refusal: Refusal, lengths: Lengths) -> State
     ensures { λ r. ⌜ r ≡ stateAt line at refusal lengths ⌝ }
 {
     State {
-        hashes: [0u8; 1280],
-        sizes: [0usize; 64],
+        hashes: [0u8; TABLE_BYTES],
+        sizes: [0usize; MOST_STASHES],
         count: 0,
         line,
         at,

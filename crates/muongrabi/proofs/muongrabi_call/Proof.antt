@@ -1,0 +1,29 @@
+-- `muongrabi::muongrabi_call` meets its contract: what the call gives back, as numbers. Assumes nothing.
+use mathlib.Core.Path.{ap, _∙_}
+use Rattle.muongrabi.specs.Answers.{answerOf}
+use borrow.Author.Needs.{needs}
+use Rattle.muongrabi.proofs.muongrabi_call.Statement.{statement}
+use Rattle.muongrabi.proofs.muongrabi_call.Tie as tie
+
+call-requires : tie.Need-call-requires
+call-requires c κs = search needs
+
+to-answer-requires : tie.Need-to-answer-requires
+to-answer-requires c κs = search needs
+
+same-length : tie.Need-same-length
+same-length c = search needs
+
+same-length-2 : tie.Need-same-length-2
+same-length-2 c = search needs
+
+same-length-3 : tie.Need-same-length-3
+same-length-3 c = search needs
+
+returns : tie.Need-returns
+returns c = (c .to-answer .ensures ∙ ap answerOf (c .before .before .before .before .before .before .before .call .ensures .0), c .before .before .before .before .before .before .before .call .ensures .1)
+
+pub muongrabi-call-spec : {M : Type 1} → statement M
+muongrabi-call-spec =
+    tie.close
+    (tie.spec call-requires to-answer-requires same-length same-length-2 same-length-3 returns)

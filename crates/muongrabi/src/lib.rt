@@ -1,0 +1,99 @@
+// The updater for C and Rust: numbers, byte slices and structs laid out as in C.
+ghost use mathlib.Core.Path.{_≡_};
+ghost use Rattle.sha1.specs.Sha1.{sha1};
+ghost use Rattle.transfer_list.specs.Opening.{lengthsOf, openState};
+ghost use Rattle.updater.specs.Calls.{leaves, calledOf};
+ghost use Rattle.updater.specs.Steps.{placeOf};
+ghost use Rattle.muongrabi.specs.Answers.{answerOf, AnswersRun};
+use state::State;
+use updater::Called;
+use updater::Outcome;
+
+// An outcome as numbers: 0 done, 1 more, 2 refused with a number and a line.
+#[repr(C)]
+pub struct Answer {
+    pub state: State,
+    pub outcome: usize,
+    pub number: usize,
+    pub line: usize,
+    pub taken: usize,
+}
+
+fn to_answer(called: Called) -> Answer
+    ensures { λ r. ⌜ r ≡ answerOf called ⌝ }
+{
+    let state = called.state;
+    let outcome = called.outcome;
+    match outcome {
+        Outcome::Done => Answer {
+            state,
+            outcome: 0,
+            number: 0,
+            line: 0,
+            taken: called.taken,
+        },
+        Outcome::More => Answer {
+            state,
+            outcome: 1,
+            number: 0,
+            line: 0,
+            taken: called.taken,
+        },
+        Outcome::Refused { number, line } => Answer {
+            state,
+            outcome: 2,
+            number,
+            line,
+            taken: called.taken,
+        },
+    }
+}
+
+// The SHA-1 digest of the bytes.
+#[no_mangle]
+pub extern "C" fn muongrabi_digest(bytes: &[u8], out: &mut [u8; 20])
+    ensures { λ _. ⌜ now (out .exit) ≡ sha1 (now (bytes .entry)) ⌝ }
+{
+    *out = sha1::digest(bytes);
+}
+
+// Opens a list over areas of the given lengths in bytes.
+#[no_mangle]
+pub extern "C" fn muongrabi_open(list: &[u8], image: usize, stash: usize, work: usize) -> State
+    ensures { λ r. ⌜ r ≡ openState (now (list .entry)) (lengthsOf (now (list .entry)) image stash work) ⌝ }
+{
+    transfer_list::open(list, image, stash, work)
+}
+
+// One call with one piece of new data.
+#[no_mangle]
+pub extern "C" fn muongrabi_call(
+    list: &[u8],
+    image: &mut [u8],
+    stash: &mut [u8],
+    work: &mut [u8],
+    piece: &[u8],
+    state: State,
+) -> Answer
+    ensures { λ r. ⌜ r ≡ answerOf (calledOf (now (list .entry)) (now (piece .entry)) (placeOf (now (image .entry)) (now (stash .entry)) (now (work .entry)) state)) ⌝ }
+    ensures { λ _. ⌜ now (image .exit) ≡ leaves (now (list .entry)) (now (piece .entry)) (placeOf (now (image .entry)) (now (stash .entry)) (now (work .entry)) state) .image ⌝ }
+    ensures { λ _. ⌜ now (stash .exit) ≡ leaves (now (list .entry)) (now (piece .entry)) (placeOf (now (image .entry)) (now (stash .entry)) (now (work .entry)) state) .stash ⌝ }
+    ensures { λ _. ⌜ now (work .exit) ≡ leaves (now (list .entry)) (now (piece .entry)) (placeOf (now (image .entry)) (now (stash .entry)) (now (work .entry)) state) .work ⌝ }
+{
+    to_answer(updater::call(list, image, stash, work, piece, state))
+}
+
+// Opens the list and makes the calls: a piece of each given length, cut short where the bytes end, and then one with what is left.
+#[no_mangle]
+pub extern "C" fn muongrabi_run(
+    list: &[u8],
+    image: &mut [u8],
+    stash: &mut [u8],
+    work: &mut [u8],
+    bytes: &[u8],
+    cuts: &[usize],
+) -> Answer
+    ensures { λ r. ⌜ AnswersRun (now (list .entry)) (now (image .entry)) (now (stash .entry)) (now (work .entry)) (now (bytes .entry)) r (now (image .exit)) (now (stash .exit)) (now (work .exit)) ⌝ }
+{
+    to_answer(updater::pieces::run_pieces(list, image, stash, work, bytes, cuts))
+}

@@ -1,0 +1,11 @@
+use mathlib.Core.Path.{refl}
+use Rattle.updater.specs.Steps.{refusedWith}
+use Rattle.updater.proofs.steps.refuse.Statement.{statement}
+use Rattle.updater.proofs.steps.refuse.Tie as tie
+
+returns : tie.Need-returns
+unfolding refusedWith
+returns c = refl
+
+pub refuse-spec : {M : Type 1} → statement M
+refuse-spec = tie.close (tie.spec returns)

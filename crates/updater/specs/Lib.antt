@@ -1,0 +1,15 @@
+pub mod Machine
+pub mod Pieces
+pub mod Bytes
+pub mod Source
+pub mod Steps
+pub mod Runnable
+pub mod Run
+pub mod Fits
+pub mod Calls
+pub mod Model
+pub mod Sequence
+pub mod Claim
+pub mod Cuts
+pub mod Samples
+pub mod Footprint

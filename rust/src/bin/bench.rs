@@ -1,0 +1,259 @@
+//! Times of the library beside plain Rust: medians of nine runs, the two sides taking turns.
+//! usage: bench [--self] [digest] [moves] [open] [new]   (--self times the reference in the library's place; no words: all)
+
+use outside::generate::{hash_text, Rng};
+use outside::reference::{self, digest, Hash, State, BLOCK, DONE, MORE, MOST_LIST};
+use outside::{library, Reference, Updater};
+use std::hint::black_box;
+use std::time::{Duration, Instant};
+
+const RUNS: usize = 9;
+
+fn main() {
+    let words: Vec<String> = std::env::args().skip(1).collect();
+    let itself = words.iter().any(|word| word == "--self");
+    let chosen: Vec<&str> = words.iter().map(|word| word.as_str()).filter(|word| *word != "--self").collect();
+    let on: &dyn Updater = if itself {
+        &Reference
+    } else {
+        library().unwrap_or_else(|| {
+            eprintln!("this build has no library (set MUONGRABI_LIB when building, or give --self)");
+            std::process::exit(2)
+        })
+    };
+    println!("{:<44} {:>12} {:>12} {:>7}", "medians of nine runs", "library", "plain Rust", "ratio");
+    let wanted = |name: &str| chosen.is_empty() || chosen.contains(&name);
+    if wanted("digest") {
+        digests(on);
+    }
+    if wanted("moves") {
+        moves(on);
+    }
+    if wanted("open") {
+        openings(on);
+    }
+    if wanted("new") {
+        new_data(on);
+    }
+}
+
+/// Medians of nine runs of each of the two, taking turns.
+fn medians(mut ours: impl FnMut() -> Duration, mut plain: impl FnMut() -> Duration) -> (Duration, Duration) {
+    let mut times: Vec<(Duration, Duration)> = (0..RUNS).map(|_| (ours(), plain())).collect();
+    times.sort_by_key(|t| t.0);
+    let first = times[RUNS / 2].0;
+    times.sort_by_key(|t| t.1);
+    (first, times[RUNS / 2].1)
+}
+
+fn timed(mut f: impl FnMut()) -> Duration {
+    let start = Instant::now();
+    f();
+    start.elapsed()
+}
+
+/// A value that is used, for all the compiler knows.
+fn keep<T>(value: T) {
+    black_box(value);
+}
+
+fn text(time: Duration) -> String {
+    let ns = time.as_nanos() as f64;
+    match ns {
+        _ if ns < 1e4 => format!("{ns:.0} ns"),
+        _ if ns < 1e7 => format!("{:.1} us", ns / 1e3),
+        _ => format!("{:.1} ms", ns / 1e6),
+    }
+}
+
+/// One line: both times, their ratio, and the speed of each over so many bytes.
+fn line(name: &str, (ours, plain): (Duration, Duration), bytes: usize) {
+    let ratio = ours.as_secs_f64() / plain.as_secs_f64().max(1e-12);
+    let speed = |time: Duration| bytes as f64 / 1e6 / time.as_secs_f64().max(1e-12);
+    print!("{name:<44} {:>12} {:>12} {ratio:>7.2}", text(ours), text(plain));
+    if bytes > 0 {
+        print!("   {:.1} and {:.1} MB/s", speed(ours), speed(plain));
+    }
+    println!();
+}
+
+fn some_bytes(n: usize) -> Vec<u8> {
+    let mut rng = Rng::new(9);
+    (0..n.div_ceil(8)).flat_map(|_| rng.next().to_le_bytes()).take(n).collect()
+}
+
+fn digests(on: &dyn Updater) {
+    for (name, size) in [("64 bytes", 64), ("4 KiB", 4_096), ("64 KiB", 65_536), ("1 MiB", 1 << 20)] {
+        let bytes = some_bytes(size);
+        assert_eq!(on.digest(&bytes), digest(&bytes));
+        let times = ((4 << 20) / size) as u32;
+        let ours = || timed(|| (0..times).for_each(|_| keep(on.digest(black_box(&bytes))))) / times;
+        let plain = || timed(|| (0..times).for_each(|_| keep(digest(black_box(&bytes))))) / times;
+        line(&format!("digest, {name}"), medians(ours, plain), size);
+    }
+}
+
+const MOVES: usize = 2_000;
+const PART: usize = 16;
+
+/// The same moves in plain loops.
+fn plain_moves(image: &mut [u8], work: &mut [u8], moves: &[(usize, usize, Hash)]) -> bool {
+    for (from, to, hash) in moves {
+        for k in 0..PART {
+            work[k * BLOCK..(k + 1) * BLOCK].copy_from_slice(&image[(from + k) * BLOCK..(from + k + 1) * BLOCK]);
+        }
+        if digest(&work[..PART * BLOCK]) != *hash {
+            return false;
+        }
+        for k in 0..PART {
+            image[(to + k) * BLOCK..(to + k + 1) * BLOCK].copy_from_slice(&work[k * BLOCK..(k + 1) * BLOCK]);
+        }
+    }
+    true
+}
+
+fn moves(on: &dyn Updater) {
+    let blocks = 4_096;
+    let start = some_bytes(blocks * BLOCK);
+    let mut rng = Rng::new(3);
+    let mut image = start.clone();
+    let mut list = "3\n0\n0\n0\n".to_string();
+    let mut moves = Vec::new();
+    for _ in 0..MOVES {
+        let (from, to) = (rng.below(blocks - PART), rng.below(blocks - PART));
+        let hash = digest(&image[from * BLOCK..(from + PART) * BLOCK]);
+        image.copy_within(from * BLOCK..(from + PART) * BLOCK, to * BLOCK);
+        list += &format!("move {} 2,{to},{} {PART} 2,{from},{}\n", hash_text(&hash), to + PART, from + PART);
+        moves.push((from, to, hash));
+    }
+    let mut ours_image = start.clone();
+    let mut plain_image = start.clone();
+    let mut work = vec![0u8; PART * BLOCK];
+    let mut plain_work = work.clone();
+    let ours = || {
+        ours_image.copy_from_slice(&start);
+        timed(|| {
+            let state = on.open(list.as_bytes(), ours_image.len(), 0, work.len());
+            let answer = on.call(list.as_bytes(), &mut ours_image, &mut [], &mut work, &[], state);
+            assert_eq!(answer.outcome, DONE);
+        })
+    };
+    let plain = || {
+        plain_image.copy_from_slice(&start);
+        timed(|| assert!(plain_moves(&mut plain_image, &mut plain_work, &moves)))
+    };
+    let times = medians(ours, plain);
+    assert!(ours_image == plain_image && ours_image == image, "the images differ");
+    line("2,000 moves of 16 blocks, opened and run", times, MOVES * PART * BLOCK);
+}
+
+/// Lines up to the greatest length of a list.
+fn fill_list(header: &str, mut next: impl FnMut(usize) -> String) -> Vec<u8> {
+    let mut list = header.to_string();
+    for k in 0.. {
+        let line = next(k);
+        if list.len() + line.len() > MOST_LIST {
+            break;
+        }
+        list += &line;
+    }
+    list.into_bytes()
+}
+
+fn opening(on: &dyn Updater, name: &str, list: &[u8], lengths: (usize, usize, usize), wanted: usize) {
+    let (image, stash, work) = lengths;
+    let (ours, plain) = (on.open(list, image, stash, work), reference::open(list, image, stash, work));
+    assert_eq!(ours, plain);
+    assert_eq!(ours.refusal.number, wanted, "{name} at line {}", ours.refusal.line);
+    let times = medians(
+        || timed(|| keep(on.open(black_box(list), image, stash, work))),
+        || timed(|| keep(reference::open(black_box(list), image, stash, work))),
+    );
+    line(&format!("open, {name}"), times, if wanted == 0 { list.len() } else { 0 });
+}
+
+fn openings(on: &dyn Updater) {
+    let mut rng = Rng::new(4);
+    let image = 524_288;
+    let areas = (image * BLOCK, 4_096 * BLOCK, 4_096 * BLOCK);
+    let name = |k: usize| hash_text(&digest(&k.to_le_bytes()));
+
+    // What builders write: moves, some stashes with the moves that use them, erased and zeroed ranges.
+    let ordinary = fill_list("3\n0\n64\n4096\n", |k| {
+        let n = rng.between(1, 60);
+        let (to, from) = (rng.below(image - n), rng.below(image - n));
+        let h = name(k);
+        match k % 10 {
+            0 => format!("stash {h} 4,{from},{},{to},{to}\nmove {h} 2,{to},{} {n} - {h}:2,0,{n}\nfree {h}\n", from + n, to + n),
+            1 => format!(
+                "stash {h} 2,{from},{}\nmove {h} 2,{to},{} {} 2,{to},{} 2,0,1 {h}:2,1,{}\nfree {h}\n",
+                from + n,
+                to + n + 1,
+                n + 1,
+                to + 1,
+                n + 1
+            ),
+            2 => {
+                let pairs: Vec<String> = (0..20).map(|j| format!("{},{}", j * 25_000 + k % 100, j * 25_000 + 200)).collect();
+                format!("erase 40,{}\n", pairs.join(","))
+            }
+            3 => format!("zero 2,{to},{}\n", to + n),
+            _ => format!("move {h} 2,{to},{} {n} 2,{from},{}\n", to + n, from + n),
+        }
+    });
+    opening(on, "4 MiB of ordinary lines", &ordinary, areas, 0);
+
+    let ranges = format!("3\n0\n0\n0\nzero 2000000{}\n", ",0,0".repeat(1_000_000));
+    opening(on, "one line of a million ranges", ranges.as_bytes(), areas, 0);
+    let lines = format!("3\n0\n0\n0\n{}", "new 2,0,0\n".repeat(400_000));
+    opening(on, "400,000 lines", lines.as_bytes(), areas, 0);
+
+    let h = name(0);
+    let wide = fill_list(&format!("3\n0\n1\n1\nstash {h} 2,0,1\n"), |_| format!("move {h} 2,0,2 2 2,0,1 2,0,4294967295 {h}:2,0,4294967295\n"));
+    opening(on, "L of 2,0,4294967295 in every line", &wide, areas, 11);
+    let far = fill_list(&format!("3\n0\n1\n1\nstash {h} 2,0,1\n"), |_| {
+        format!("move {h} 2,0,2 2 2,0,1 4,0,1,4294967295,4294967295 {h}:4,1,2,4294967295,4294967295\n")
+    });
+    opening(on, "empty ranges at 4294967295 in every L", &far, areas, 0);
+
+    let stashes: String = (0..64).map(|k| format!("stash {} 2,{k},{}\n", name(k), k + 1)).collect();
+    let parts: String = (0..64).map(|k| format!(" {}:2,{k},{}", name(63 - k), k + 1)).collect();
+    let all = fill_list(&format!("3\n0\n64\n64\n{stashes}"), |_| format!("move {h} 2,0,64 64 -{parts}\n"));
+    opening(on, "64 stashes, every move naming all", &all, areas, 0);
+    let places = fill_list(&format!("3\n0\n1\n4096\nstash {h} 2,0,4096\n"), |_| format!("move {h} 2,0,4096 4096 - {h}:2,0,4096\n"));
+    opening(on, "4,096 places in every line", &places, areas, 0);
+    let single: String = (0..4_096).map(|k| format!(",{k},{}", k + 1)).collect();
+    let ragged = fill_list(&format!("3\n0\n1\n4096\nstash {h} 2,0,4096\n"), |_| format!("move {h} 2,0,4096 4096 - {h}:8192{single}\n"));
+    opening(on, "4,096 places, each a range of its own", &ragged, areas, 0);
+}
+
+fn new_data(on: &dyn Updater) {
+    for (name, before) in [("", 0), (", a 1 MiB list before it", 1 << 20)] {
+        for (size, bytes) in [(1usize, 16usize << 10), (64, 1 << 20), (4_096, 16 << 20), (65_536, 16 << 20)] {
+            let bytes = if before > 0 { (size * 64).min(bytes) } else { bytes };
+            let blocks = bytes.div_ceil(BLOCK);
+            let mut list = format!("3\n{blocks}\n0\n0\n");
+            while list.len() < before {
+                list += "zero 6,0,0,1,1,2,2\n";
+            }
+            list += &format!("new 2,0,{blocks}\n");
+            let data = some_bytes(bytes);
+            let mut image = vec![0u8; blocks.max(2) * BLOCK];
+            let mut plain_image = image.clone();
+            let run = |on: &dyn Updater, image: &mut [u8]| {
+                let mut state: State = on.open(list.as_bytes(), image.len(), 0, 0);
+                assert_eq!(state.refusal.number, 0);
+                timed(|| {
+                    for piece in data.chunks(size) {
+                        let answer = on.call(list.as_bytes(), image, &mut [], &mut [], piece, state);
+                        assert!(answer.outcome <= MORE && answer.taken == piece.len());
+                        state = answer.state;
+                    }
+                })
+            };
+            let times = medians(|| run(on, &mut image), || run(&Reference, &mut plain_image));
+            assert!(image == plain_image && image[..bytes] == data[..]);
+            line(&format!("new, pieces of {size}{name}"), times, bytes);
+        }
+    }
+}

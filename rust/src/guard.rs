@@ -1,0 +1,66 @@
+//! Memory between two pages that may not be touched, so that a byte read or written outside a lent area stops the program.
+
+use std::ffi::{c_int, c_long, c_void};
+
+extern "C" {
+    fn mmap(at: *mut c_void, length: usize, protection: c_int, flags: c_int, file: c_int, offset: c_long) -> *mut c_void;
+    fn mprotect(at: *mut c_void, length: usize, protection: c_int) -> c_int;
+    fn munmap(at: *mut c_void, length: usize) -> c_int;
+}
+
+const PAGE: usize = 4_096;
+const NONE: c_int = 0;
+const READ_WRITE: c_int = 3;
+const PRIVATE_ANONYMOUS: c_int = 0x22;
+
+/// Bytes that end at the guard behind them, or start at the guard before them.
+pub struct Guarded {
+    base: *mut u8,
+    room: usize,
+    start: usize,
+    length: usize,
+}
+
+impl Guarded {
+    /// Room for this many bytes, rounded up to pages.
+    pub fn new(bytes: usize) -> Guarded {
+        let room = bytes.div_ceil(PAGE) * PAGE;
+        // SAFETY: a fresh mapping, opened between its first and last page.
+        unsafe {
+            let base = mmap(std::ptr::null_mut(), room + 2 * PAGE, NONE, PRIVATE_ANONYMOUS, -1, 0);
+            assert!(base as isize != -1, "no memory for guarded bytes");
+            let base = base as *mut u8;
+            if room > 0 {
+                assert!(mprotect(base.add(PAGE) as *mut c_void, room, READ_WRITE) == 0);
+            }
+            Guarded { base, room, start: PAGE, length: 0 }
+        }
+    }
+
+    /// Holds these bytes from now on, against the guard behind or the one before.
+    pub fn set(&mut self, bytes: &[u8], behind: bool) {
+        if bytes.len() > self.room {
+            *self = Guarded::new(bytes.len());
+        }
+        self.start = if behind { PAGE + self.room - bytes.len() } else { PAGE };
+        self.length = bytes.len();
+        self.bytes_mut().copy_from_slice(bytes);
+    }
+
+    pub fn bytes(&self) -> &[u8] {
+        // SAFETY: start and length lie within the open pages.
+        unsafe { std::slice::from_raw_parts(self.base.add(self.start), self.length) }
+    }
+
+    pub fn bytes_mut(&mut self) -> &mut [u8] {
+        // SAFETY: as above, and borrowed for writing.
+        unsafe { std::slice::from_raw_parts_mut(self.base.add(self.start), self.length) }
+    }
+}
+
+impl Drop for Guarded {
+    fn drop(&mut self) {
+        // SAFETY: the mapping made in `new`.
+        unsafe { munmap(self.base as *mut c_void, self.room + 2 * PAGE) };
+    }
+}

@@ -1,0 +1,265 @@
+/*
+ * Every lent area stands against a page that may not be touched, behind it or before it, and list, piece and cuts may not be written:
+ * a byte read or written outside what was lent ends the program. Ends in one line `N passed, M failed`.
+ */
+#define _DEFAULT_SOURCE
+#include <stdio.h>
+#include <stdlib.h>
+#include <string.h>
+#include <sys/mman.h>
+
+#include "muongrabi.h"
+
+#define BLOCK MUONGRABI_BLOCK
+
+/* The layout that the library was compiled with. */
+_Static_assert(sizeof(size_t) == 8, "64 bits");
+_Static_assert(sizeof(muongrabi_refusal) == 16, "refusal");
+_Static_assert(sizeof(muongrabi_lengths) == 32, "lengths");
+_Static_assert(offsetof(muongrabi_state, sizes) == 1280, "sizes");
+_Static_assert(offsetof(muongrabi_state, count) == 1792, "count");
+_Static_assert(offsetof(muongrabi_state, line) == 1800, "line");
+_Static_assert(offsetof(muongrabi_state, at) == 1808, "at");
+_Static_assert(offsetof(muongrabi_state, into) == 1816, "into");
+_Static_assert(offsetof(muongrabi_state, refusal) == 1824, "refusal");
+_Static_assert(offsetof(muongrabi_state, lengths) == 1840, "lengths");
+_Static_assert(sizeof(muongrabi_state) == 1872, "state");
+_Static_assert(offsetof(muongrabi_answer, outcome) == 1872, "outcome");
+_Static_assert(sizeof(muongrabi_answer) == 1904, "answer");
+
+static int passed, failed;
+
+static void check(int good, const char *what)
+{
+    if (good) {
+        passed++;
+    } else {
+        failed++;
+        printf("failed: %s\n", what);
+    }
+}
+
+/* Room for some pages with a page that may not be touched on either side. */
+typedef struct {
+    uint8_t *first;
+    size_t room;
+} lot;
+
+static lot new_lot(size_t pages)
+{
+    size_t length = (pages + 2) * BLOCK;
+    uint8_t *base = mmap(NULL, length, PROT_NONE, MAP_PRIVATE | MAP_ANONYMOUS, -1, 0);
+    if (base == MAP_FAILED || (pages && mprotect(base + BLOCK, pages * BLOCK, PROT_READ | PROT_WRITE) != 0)) {
+        perror("mmap");
+        exit(2);
+    }
+    lot made = {base + BLOCK, pages * BLOCK};
+    return made;
+}
+
+/* The bytes against the page behind, or the one before; read-only where asked. */
+static uint8_t *lay(lot *in, const void *bytes, size_t length, int behind, int read_only)
+{
+    if (in->room) mprotect(in->first, in->room, PROT_READ | PROT_WRITE);
+    uint8_t *at = behind ? in->first + in->room - length : in->first;
+    if (length) memcpy(at, bytes, length);
+    if (in->room && read_only) mprotect(in->first, in->room, PROT_READ);
+    return at;
+}
+
+static void fill(uint8_t *bytes, const char *letters)
+{
+    for (size_t k = 0; letters[k]; k++) memset(bytes + k * BLOCK, letters[k] == '0' ? 0 : letters[k], BLOCK);
+}
+
+static int holds(const uint8_t *bytes, const char *letters)
+{
+    for (size_t k = 0; letters[k]; k++)
+        for (size_t j = 0; j < BLOCK; j++)
+            if (bytes[k * BLOCK + j] != (letters[k] == '0' ? 0 : letters[k])) return 0;
+    return 1;
+}
+
+static void name_of(const char *letters, char out[41])
+{
+    static uint8_t bytes[8 * BLOCK];
+    uint8_t hash[20];
+    fill(bytes, letters);
+    muongrabi_digest(bytes, strlen(letters) * BLOCK, hash);
+    for (int k = 0; k < 20; k++) sprintf(out + 2 * k, "%02x", hash[k]);
+}
+
+static lot list_lot, image_lot, stash_lot, work_lot, piece_lot, cuts_lot, hash_lot;
+
+/* Digests at every length around the padding, read and written against the pages. */
+static void digests(void)
+{
+    static const char *abc = "a9993e364706816aba3e25717850c26c9cd0d89d";
+    static uint8_t bytes[260], plain[20];
+    for (size_t k = 0; k < sizeof bytes; k++) bytes[k] = (uint8_t)(k * 7);
+    int good = 1;
+    for (int behind = 0; behind < 2; behind++) {
+        for (size_t length = 0; length <= sizeof bytes; length++) {
+            uint8_t nothing[20] = {0};
+            const uint8_t *at = lay(&piece_lot, bytes, length, behind, 1);
+            uint8_t *out = lay(&hash_lot, nothing, 20, behind, 0);
+            muongrabi_digest(at, length, out);
+            muongrabi_digest(bytes, length, plain);
+            good &= memcmp(out, plain, 20) == 0;
+        }
+    }
+    check(good, "digests against the pages");
+    muongrabi_digest((const uint8_t *)"abc", 3, plain);
+    char text[41];
+    for (int k = 0; k < 20; k++) sprintf(text + 2 * k, "%02x", plain[k]);
+    check(strcmp(text, abc) == 0, "digest of abc");
+}
+
+static char list[4096];
+
+/* A list with every command and form. */
+static size_t make_list(void)
+{
+    char ab[41], h[41], cde[41], ba[41], phq[41];
+    name_of("AB", ab);
+    name_of("H", h);
+    name_of("CDE", cde);
+    name_of("BA", ba);
+    name_of("pHq", phq);
+    return (size_t)snprintf(list, sizeof list,
+        "3\n3\n2\n3\nstash %s 2,0,2\nstash %s 2,7,8\nnew 4,0,1,6,7\nmove %s 2,1,4 3 2,2,5\nmove %s 2,4,6 2 - %s:4,1,2,0,1\n"
+        "move %s 4,7,8,2,4 3 4,0,1,6,7 4,0,1,2,3 %s:2,1,2\nfree %s\nzero 4,1,2,8,8\nerase 2,6,7\nnew 2,5,6\n",
+        ab, h, cde, ba, ab, phq, h, ab);
+}
+
+/* The whole list in pieces of one length, every area exactly as large as it must be. */
+static void whole_runs(size_t length)
+{
+    static uint8_t image[8 * BLOCK], data[3 * BLOCK], area[3 * BLOCK];
+    fill(data, "pqr");
+    size_t pieces[] = {1, 64, 4095, 4096, 4097, 3 * BLOCK};
+    for (int behind = 0; behind < 2; behind++) {
+        for (size_t p = 0; p < sizeof pieces / sizeof *pieces; p++) {
+            fill(image, "ABCDEFGH");
+            fill(area, "xyz");
+            const uint8_t *l = lay(&list_lot, list, length, behind, 1);
+            uint8_t *i = lay(&image_lot, image, sizeof image, behind, 0);
+            uint8_t *s = lay(&stash_lot, area, sizeof area, behind, 0);
+            uint8_t *w = lay(&work_lot, area, sizeof area, behind, 0);
+            muongrabi_state state = muongrabi_open(l, length, sizeof image, sizeof area, sizeof area);
+            muongrabi_answer answer = {.outcome = MUONGRABI_MORE};
+            size_t taken = 0;
+            for (size_t at = 0; at < sizeof data && answer.outcome == MUONGRABI_MORE; at += pieces[p]) {
+                size_t n = sizeof data - at < pieces[p] ? sizeof data - at : pieces[p];
+                const uint8_t *piece = lay(&piece_lot, data + at, n, behind, 1);
+                answer = muongrabi_call(l, length, i, sizeof image, s, sizeof area, w, sizeof area, piece, n, state);
+                state = answer.state;
+                taken += answer.taken;
+            }
+            check(answer.outcome == MUONGRABI_DONE && taken == sizeof data, "a run's end");
+            check(holds(i, "p0HqBr0p") && holds(s, "HBH") && holds(w, "pHq"), "what a run leaves");
+            check(state.count == 1 && state.sizes[0] == 1 && state.at == length && state.line == 15, "the state at the end");
+        }
+        size_t cuts[] = {0, 1, 4096, 5000, 0, 99999};
+        fill(image, "ABCDEFGH");
+        const uint8_t *l = lay(&list_lot, list, length, behind, 1);
+        uint8_t *i = lay(&image_lot, image, sizeof image, behind, 0);
+        uint8_t *s = lay(&stash_lot, area, sizeof area, behind, 0);
+        uint8_t *w = lay(&work_lot, area, sizeof area, behind, 0);
+        const uint8_t *d = lay(&piece_lot, data, sizeof data, behind, 1);
+        const size_t *c = (const size_t *)(const void *)lay(&cuts_lot, cuts, sizeof cuts, behind, 1);
+        muongrabi_answer answer = muongrabi_run(l, length, i, sizeof image, s, sizeof area, w, sizeof area, d, sizeof data, c, 6);
+        check(answer.outcome == MUONGRABI_DONE && answer.taken == sizeof data && holds(i, "p0HqBr0p"), "a run over cuts");
+    }
+}
+
+/* Every beginning of the list, opened and called from every line: nothing is read past its last byte. */
+static void beginnings(size_t length)
+{
+    static uint8_t image[8 * BLOCK], area[3 * BLOCK], data[3 * BLOCK];
+    fill(data, "pqr");
+    int good = 1;
+    for (size_t n = 0; n <= length; n++) {
+        const uint8_t *l = lay(&list_lot, list, n, 1, 1);
+        muongrabi_state state = muongrabi_open(l, n, sizeof image, sizeof area, sizeof area);
+        size_t number = state.refusal.number;
+        good &= n == length ? number == 0 : number == 3 || number == 6 || number == 15;
+        for (size_t at = 0, line = 1; at <= n; at++) {
+            if (at > 0 && list[at - 1] == '\n') line++;
+            if (at > 0 && at < n && list[at - 1] != '\n') continue;
+            muongrabi_state from;
+            memset(&from, 0, sizeof from);
+            from.at = at;
+            from.line = line;
+            from.lengths = (muongrabi_lengths){n, sizeof image, sizeof area, sizeof area};
+            fill(image, "ABCDEFGH");
+            uint8_t *i = lay(&image_lot, image, sizeof image, 1, 0);
+            uint8_t *s = lay(&stash_lot, area, sizeof area, 1, 0);
+            uint8_t *w = lay(&work_lot, area, sizeof area, 1, 0);
+            const uint8_t *d = lay(&piece_lot, data, sizeof data, 1, 1);
+            muongrabi_answer answer = muongrabi_call(l, n, i, sizeof image, s, sizeof area, w, sizeof area, d, sizeof data, from);
+            good &= answer.outcome <= MUONGRABI_REFUSED;
+        }
+    }
+    check(good, "every beginning of the list");
+}
+
+/* Areas of no bytes, and states of border values. */
+static void nothing_lent(void)
+{
+    static const char *empty = "3\n0\n0\n0\n";
+    static const char *some = "3\n1\n64\n0\nzero 2,0,0\nnew 2,0,0\nnew 2,0,1\n";
+    lot none = new_lot(0);
+    for (int behind = 0; behind < 2; behind++) {
+        const uint8_t *l = lay(&list_lot, empty, strlen(empty), behind, 1);
+        muongrabi_state state = muongrabi_open(l, strlen(empty), 0, 0, 0);
+        muongrabi_answer answer = muongrabi_call(l, strlen(empty), none.first, 0, none.first, 0, none.first, 0, none.first, 0, state);
+        check(answer.outcome == MUONGRABI_DONE && answer.taken == 0, "the empty list with nothing lent");
+        state = muongrabi_open(none.first, 0, 0, 0, 0);
+        check(state.refusal.number == 3 && state.refusal.line == 1, "no list");
+        answer = muongrabi_run(none.first, 0, none.first, 0, none.first, 0, none.first, 0, none.first, 0, (const size_t *)(const void *)none.first, 0);
+        check(answer.outcome == MUONGRABI_REFUSED && answer.number == 3 && answer.line == 1 && answer.taken == 0, "a run over no list");
+    }
+
+    static uint8_t image[BLOCK];
+    size_t borders[] = {0, 1, 4, 5, 6, 7, 8, 9, 19, 20, 30, 40, 63, 64, 65, 4095, 4096, 4097, (size_t)1 << 63, SIZE_MAX - 4095, SIZE_MAX - 1, SIZE_MAX};
+    size_t many = sizeof borders / sizeof *borders;
+    int good = 1;
+    const uint8_t *l = lay(&list_lot, some, strlen(some), 1, 1);
+    uint8_t *i = lay(&image_lot, image, BLOCK, 1, 0);
+    const uint8_t *d = lay(&piece_lot, "0123456789", 10, 1, 1);
+    muongrabi_state open = muongrabi_open(l, strlen(some), BLOCK, 0, 0);
+    check(open.refusal.number == 0, "a list to disturb");
+    for (size_t a = 0; a < many; a++) {
+        for (size_t b = 0; b < many; b++) {
+            for (size_t c = 0; c < 6; c++) {
+                muongrabi_state state = open;
+                size_t *fields[] = {&state.at, &state.line, &state.into, &state.count, &state.sizes[0], &state.sizes[63]};
+                *fields[c] = borders[a];
+                *fields[(c + 1 + a % 5) % 6] = borders[b];
+                muongrabi_answer answer = muongrabi_call(l, strlen(some), i, BLOCK, none.first, 0, none.first, 0, d, 10, state);
+                good &= answer.outcome <= MUONGRABI_REFUSED;
+                if (answer.number == 17) good &= answer.taken == 0 && memcmp(&answer.state, &state, sizeof state) == 0;
+            }
+        }
+    }
+    check(good, "states of border values");
+}
+
+int main(void)
+{
+    list_lot = new_lot(2);
+    image_lot = new_lot(8);
+    stash_lot = new_lot(3);
+    work_lot = new_lot(3);
+    piece_lot = new_lot(3);
+    cuts_lot = new_lot(1);
+    hash_lot = new_lot(1);
+    digests();
+    size_t length = make_list();
+    whole_runs(length);
+    beginnings(length);
+    nothing_lent();
+    printf("%d passed, %d failed\n", passed, failed);
+    return failed != 0;
+}

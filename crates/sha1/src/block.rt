@@ -25,7 +25,7 @@ fn compress(h: State, s: &[u8], at: usize) -> State
 }
 
 // h taken on by every whole block of s.
-pub fn hash(h: State, s: &[u8]) -> State
+pub(crate) fn hash(h: State, s: &[u8]) -> State
     ensures { λ r. ⌜ r ≡ Sha1.hash h (now (s .entry)) ⌝ }
 {
     let n = s.len() / 64;

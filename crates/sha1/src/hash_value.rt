@@ -5,7 +5,7 @@ use crate::State;
 use crate::word::add;
 use crate::word::byte;
 
-pub fn initial() -> State
+pub(crate) fn initial() -> State
     ensures { λ r. ⌜ r ≡ Sha1.initial ⌝ }
 {
     State {
@@ -17,7 +17,7 @@ pub fn initial() -> State
     }
 }
 
-pub fn plus(h: State, v: State) -> State
+pub(crate) fn plus(h: State, v: State) -> State
     ensures { λ r. ⌜ r ≡ Sha1.plus h v ⌝ }
 {
     State {
@@ -29,7 +29,7 @@ pub fn plus(h: State, v: State) -> State
     }
 }
 
-pub fn output(h: State) -> [u8; 20]
+pub(crate) fn output(h: State) -> [u8; 20]
     ensures { λ r. ⌜ r ≡ Sha1.output h ⌝ }
 {
     [

@@ -21,7 +21,7 @@ fn step(v: State, f: u32, k: u32, w: u32) -> State
     }
 }
 
-pub fn rounds_0_19(h: State, w: &[u32; 80]) -> State
+pub(crate) fn rounds_0_19(h: State, w: &[u32; 80]) -> State
     ensures { λ r. ⌜ r ≡ Sha1.rounds (now (w .entry)) 0 20 h ⌝ }
 {
     let mut v = h;
@@ -33,7 +33,7 @@ pub fn rounds_0_19(h: State, w: &[u32; 80]) -> State
     v
 }
 
-pub fn rounds_20_39(h: State, w: &[u32; 80]) -> State
+pub(crate) fn rounds_20_39(h: State, w: &[u32; 80]) -> State
     ensures { λ r. ⌜ r ≡ Sha1.rounds (now (w .entry)) 20 20 h ⌝ }
 {
     let mut v = h;
@@ -45,7 +45,7 @@ pub fn rounds_20_39(h: State, w: &[u32; 80]) -> State
     v
 }
 
-pub fn rounds_40_59(h: State, w: &[u32; 80]) -> State
+pub(crate) fn rounds_40_59(h: State, w: &[u32; 80]) -> State
     ensures { λ r. ⌜ r ≡ Sha1.rounds (now (w .entry)) 40 20 h ⌝ }
 {
     let mut v = h;
@@ -57,7 +57,7 @@ pub fn rounds_40_59(h: State, w: &[u32; 80]) -> State
     v
 }
 
-pub fn rounds_60_79(h: State, w: &[u32; 80]) -> State
+pub(crate) fn rounds_60_79(h: State, w: &[u32; 80]) -> State
     ensures { λ r. ⌜ r ≡ Sha1.rounds (now (w .entry)) 60 20 h ⌝ }
 {
     let mut v = h;

@@ -7,7 +7,7 @@ use crate::word::load;
 use crate::word::rotl1;
 
 // Puts the schedule of the block that starts at `at` into w.
-pub fn schedule(w: &mut [u32; 80], s: &[u8], at: usize)
+pub(crate) fn schedule(w: &mut [u32; 80], s: &[u8], at: usize)
     requires { ⌜ length (now w) ≡ 80 ⌝ }
     requires { ⌜ at + 64 ≤ length (now s) ⌝ }
     ensures { λ r. ⌜ now (w .exit) ≡ Sha1.schedule (now (s .entry)) at 80 ⌝ }

@@ -31,7 +31,7 @@ use Rattle.updater.proofs.MachineLaws.{bool, feeds-keeps, feeds-waits, 
 use Rattle.updater.proofs.MachineLaws.{calls-joined, totals-joined}
 use Rattle.updater.proofs.RunningLaws.{Running, running-line, running-runnable, running-only, running-sound}
 use Rattle.updater.proofs.RunningLaws.{none-into, running-into, running-possible, running-limits}
-use Rattle.updater.proofs.OpenedLaws.{opened-running}
+use Rattle.updater.proofs.OpenedLaws.{open-decided, opened-running}
 use Rattle.updater.proofs.ModelLaws.{modelOf, place-eq, Runs, lines}
 
 -- a call goes on, unless a refusal is held
@@ -280,4 +280,11 @@ module _ (s image stash work : List ℕ) (e : Accepted s image stash work) where
 
 -- THE CLAIM, for every text, areas and pieces
 pub claim : Claim
-claim = record { agrees = opened-agrees; alike = opened-alike; whole = opened-whole; only-hash = opened-only }
+claim =
+    record {
+      decided = λ s image stash work. open-decided s (lengthsHere s image stash work);
+      agrees = opened-agrees;
+      alike = opened-alike;
+      whole = opened-whole;
+      only-hash = opened-only;
+    }

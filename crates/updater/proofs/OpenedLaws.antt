@@ -2,28 +2,32 @@
 -- Assumes nothing.
 use mathlib.Core.Path.{_≡_, refl, sym, ap, subst}
 use mathlib.Core.Bool.{true, false}
-use mathlib.Core.List.{List}
+use mathlib.Core.List.{List, []}
 use mathlib.Core.Logic.{_⊎_, inl, inr}
-use Prim.Native.Nat.{ℕ, suc}
+use Prim.Native.Nat.{ℕ, zero, suc, _+_}
 use native.Mathlib.Omega.{arith}
 use borrow.Author.Tests.{eqb-true, eqb-false}
-use lib.Dec.{eqb}
+use lib.Dec.{leb, eqb}
 use lib.ListN.{length, length-replicate}
-use Rattle.state.specs.Refusals.{none}
-use Rattle.state.specs.Stashes.{entries, held, heldTwice, blocksHeld}
+use Rattle.text.specs.Line.{lineAt}
+use Rattle.state.specs.Refusals.{none, newTotal}
+use Rattle.state.specs.Stashes.{Stash, entries, held, heldTwice, blocksHeld}
 use Rattle.state.specs.declared.Lengths.{Lengths}
 use Rattle.state.specs.declared.Refusal.{Refusal}
 use Rattle.state.specs.declared.State.{State}
-use Rattle.transfer_list.specs.Header.{headerOf, startRefusal, noRefusal}
-use Rattle.transfer_list.specs.Opening.{limitsOf, firstLine, commandsRefusal, openRefusal, firstAt, stateAt, acceptedState, openState}
+use Rattle.rules.specs.Rules.{refusalOf}
+use Rattle.rules.specs.declared.Limits.{Limits}
+use Rattle.transfer_list.specs.Header.{headerOf, startRefusal, refusal, noRefusal}
+use Rattle.transfer_list.specs.Opening.{limitsOf, firstLine, totalRefusal, linesRefusal, commandsRefusal, openRefusal, firstAt, stateAt, acceptedState, openState}
 use Rattle.transfer_list.specs.declared.header.Header.{Header}
-use Rattle.transfer_list.specs.declared.header.HeaderRead.the-variants.{Good}
+use Rattle.transfer_list.specs.declared.header.HeaderRead.{HeaderRead}
+use Rattle.transfer_list.specs.declared.header.HeaderRead.the-variants.{Good, Bad}
 use Rattle.transfer_list.proofs.HeaderLaws.{Opening, header-first, header-last, header-lines, start-none}
 use Rattle.updater.specs.Runnable.{Keeps}
 use Rattle.updater.specs.Fits.{Fits}
 use Rattle.updater.specs.Steps.{Place, placeOf}
 use Rattle.updater.specs.Claim.{lengthsHere, openedPlace, Accepted}
-use Rattle.updater.proofs.MachineLaws.{bool}
+use Rattle.updater.proofs.MachineLaws.{bool, picks}
 use Rattle.updater.proofs.RunningLaws.{Going, going, Running}
 
 module _ (s : List ℕ) (lengths : Lengths) (e : openRefusal s lengths ≡ noRefusal) where
@@ -94,6 +98,38 @@ module _ (s image stash work : List ℕ) (o : Opening s (lengthsHere s image sta
         into = inl refl;
         goes = going refl (walk e);
       }
+
+-- ---- an opening without a number is accepted
+
+abbrev Decided : Refusal → Type 0
+Decided r = r .number ≡ none → r ≡ noRefusal
+
+total-decided : (h : Header) (fresh : ℕ) → Decided (totalRefusal h fresh)
+unfolding totalRefusal
+total-decided h fresh =
+    picks Decided (eqb fresh (h .fresh)) noRefusal (refusal newTotal 2) (λ e r. refl) (λ e r. absurd (omega arith))
+
+lines-decided : (n : ℕ) (s : List ℕ) (limits : Limits) (h : Header) (line at : ℕ) (stashes : List Stash) (fresh : ℕ) →
+    Decided (linesRefusal n s limits h line at stashes fresh)
+unfolding linesRefusal
+lines-decided zero s limits h line at stashes fresh = total-decided h fresh
+lines-decided (suc n) s limits h line at stashes fresh =
+    picks Decided (leb (length s) at) _ _ (λ e. total-decided h fresh)
+    (λ e.
+    picks Decided (eqb (refusalOf (lineAt s at) limits stashes) none) _ _
+    (λ f. lines-decided n s limits h (line + 1) (at + length (lineAt s at)) _ _)
+    (λ f r. absurd (eqb-false (refusalOf (lineAt s at) limits stashes) none f r)))
+
+commands-decided : (s : List ℕ) (lengths : Lengths) (h : HeaderRead) → Decided (commandsRefusal s lengths h)
+unfolding commandsRefusal
+commands-decided s lengths (Good h) = lines-decided (suc (length s)) s (limitsOf lengths h) h firstLine (h .first) [] 0
+commands-decided s lengths (Bad line) = λ r. refl
+
+pub open-decided : (s : List ℕ) (lengths : Lengths) → openRefusal s lengths .number ≡ none → openRefusal s lengths ≡ noRefusal
+unfolding openRefusal
+open-decided s lengths =
+    picks Decided (eqb (startRefusal s lengths .number) none) _ _ (λ e. commands-decided s lengths (headerOf s))
+    (λ e r. absurd (eqb-false (startRefusal s lengths .number) none e r))
 
 -- the place where an accepted opening leaves it, with no byte into a `new`
 pub opened-running : (s image stash work : List ℕ) → Accepted s image stash work →

@@ -50,6 +50,8 @@ pub record Agrees (s image₀ stash₀ work₀ q : List ℕ) (qs : List (List �
 
 -- THE CLAIM
 pub record Claim : Type 0 where
+  -- an opening is accepted, or refused with a number: there is nothing between
+  pub decided : (s image stash work : List ℕ) → openRefusal s (lengthsHere s image stash work) .number ≡ none → Accepted s image stash work
   -- the calls end as the model does for the pieces joined
   pub agrees : (s image stash work : List ℕ) → Accepted s image stash work →
       (q : List ℕ) (qs : List (List ℕ)) → Agrees s image stash work q qs (model s image stash work (joined (q ∷ qs)))

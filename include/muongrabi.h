@@ -12,9 +12,9 @@
  *         if (answer.outcome != MUONGRABI_MORE) break;
  *     }
  *
- * For all functions: a pointer with length n names n readable bytes (writable for image, stash and work), where n is 0 the pointer
- * must still not be null. Image, stash and work overlap neither each other nor the list or the piece. Every value of every byte,
- * length and state field is allowed and gets an answer.
+ * For all functions: a pointer with length n names n readable bytes, writable ones for image, stash and work; cuts names n readable
+ * numbers; out names 20 writable bytes. Where n is 0 the pointer must still not be null. What is written (image, stash, work, out)
+ * overlaps nothing else that the same call is lent. Every value of every byte, number and state field is allowed and gets an answer.
  */
 #ifndef MUONGRABI_H
 #define MUONGRABI_H
@@ -45,11 +45,11 @@ extern "C" {
  *  2  list too long                                                             0
  *  3  header line absent, ill formed or without LF                              that line
  *  4  version not 3                                                             1
- *  5  line 3 over 64; line 4 over the stash area                                3; 4
+ *  5  line 3 over 64; else line 4 over the stash area                           3; 4
  *  6  command line ill formed, or its word unknown                              that line
- *  7  bsdiff or imgdiff                                                         that line
+ *  7  first word bsdiff or imgdiff, whatever follows                            that line
  *  8  a range of target or image source ends past the image                     that line
- *  9  a source larger than the work area                                        that line
+ *  9  N, or an image source, larger than the work area                          that line
  * 10  a stash named in move or free is not held                                 that line
  * 11  sizes of target, source and places do not agree                           that line
  * 12  a place at N or above, or taken twice                                     that line
@@ -57,9 +57,15 @@ extern "C" {
  * 14  holding it would pass line 3 or line 4                                    that line
  * 15  all new targets together differ from line 2                               2
  * 16  in a run: a source's SHA-1 is not the one in the list                     that line
- * 17  in a call: a state that no run has, or a length that changed              0
+ * 17  in a call: state impossible, or the length of list, image or area changed 0
  *
- * An opening gives 1 to 15 and looks at no block. On the list that was opened, with the states given back, a call gives 16 only.
+ * An opening gives 1 to 15 and looks at no block. A call gives 6 to 14, 16 and 17, and repeats the refusal that its state holds. On
+ * the list that was opened, with the states given back and areas of the same lengths, it gives 16 only.
+ *
+ * A state is impossible when the areas and the list's header would now give 1 to 5; when `at` is past the list's end, before the first
+ * command line or not at a line's start (the end after an LF is one), or `line` is not that line's number; when it holds over 64
+ * stashes, one hash twice, or more blocks than line 4 or the stash area; or when `into` is not 0 and the line is no good `new` (6, 8)
+ * or has no more bytes than that.
  */
 
 /* A refusal; number 0 is none. */
@@ -113,7 +119,8 @@ muongrabi_state muongrabi_open(const uint8_t *list, size_t list_length, size_t i
  * Runs the list from where the state stands until it needs a byte that the piece does not have, the list is finished, or a line is
  * refused. A refusal other than 17 is held in the state given back, and every later call repeats it. With 17 the state comes back as
  * it was, and nothing is taken or changed. A refused line changes nothing itself, except the work area where its hash differs (16).
- * The list, and the lengths, must be those of the opening.
+ * Nothing is taken on trust from the opening: a state or a length that does not fit is refused with 17, and each line is read and
+ * checked again (6 to 14) before it runs, so that of a list altered since opening nothing runs that the rules refuse.
  */
 muongrabi_answer muongrabi_call(const uint8_t *list, size_t list_length,
                                 uint8_t *image, size_t image_length,
@@ -123,9 +130,9 @@ muongrabi_answer muongrabi_call(const uint8_t *list, size_t list_length,
                                 muongrabi_state state);
 
 /*
- * Opens the list, then calls with pieces of data of the lengths in cuts, cut short where data ends, then with all that is left.
- * The answer is the last call's, its taken the sum over all calls. A refused opening is answered with MUONGRABI_REFUSED, its number
- * and line, and taken 0; nothing is changed then.
+ * Opens the list, then calls with pieces of data, whose lengths are the cuts_length numbers of cuts, cut short where data ends, and
+ * once more with all that is left. The answer is the last call's, its taken the sum over all calls. A refused opening is answered with
+ * MUONGRABI_REFUSED, its number and line, and taken 0; nothing is changed then.
  */
 muongrabi_answer muongrabi_run(const uint8_t *list, size_t list_length,
                                uint8_t *image, size_t image_length,

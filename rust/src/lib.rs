@@ -1,6 +1,7 @@
 //! The outside check: the rules in plain Rust, the proved library behind a safe wrapper, and cases to compare them on.
 
 pub mod compare;
+pub mod coverage;
 pub mod ffi;
 pub mod generate;
 pub mod guard;

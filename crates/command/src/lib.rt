@@ -1,26 +1,37 @@
 // A line of a transfer list, read as a command.
 ghost use mathlib.Core.Path.{_≡_};
-ghost use Rattle.command.specs.Commands.{lastSetAt, moveFrom, stashFrom, freeFrom, named, sized, commandOf, plain};
-ghost use Rattle.command.specs.declared.Command.the-variants.{Zero, New};
+ghost use Rattle.text.specs.Expected.{onExpected};
+ghost use Rattle.ranges.specs.Ranges.{onRanges};
+ghost use Rattle.command.specs.declared.Command.the-variants.{Bad};
+ghost use Rattle.command.specs.Commands.{moveTo, moveFrom, stashFrom, freeFrom, afterHash, withSet, plain, hashedLine, rangeLine, commandOf};
+use crate::field::read_hash_field;
+use crate::field::read_last_set;
+use crate::field::read_number_field;
+use crate::field::read_set_field;
 use crate::source::Source;
 use crate::source::SourceRead;
 use crate::source::read_source;
-use text::hash::read_hash;
-use text::mark::Mark;
-use text::mark::read_mark;
+use crate::word::HashWord;
+use crate::word::RangeWord;
+use crate::word::Word;
+use crate::word::word_of;
+use ranges::RangeSet;
+use ranges::Ranges;
+use text::expected::Expected;
+use text::expected::read_expected;
+use text::hash::HASH_BYTES;
 use text::number::Number;
-use text::number::read_number;
-use text::ranges::RangeSet;
-use text::ranges::Ranges;
-use text::ranges::read_ranges;
-use text::word::first_word_is;
 
+pub mod field;
 pub mod parts;
 pub mod source;
+pub mod targets;
+pub mod word;
 
-// `Zero` is `zero` and `erase`, `Patch` is `bsdiff` and `imgdiff`; `Bad` has the position of the line's fault.
+// `Unsupported` is `bsdiff` and `imgdiff`; `Bad` has the position of the line's fault.
 pub enum Command {
     Zero(RangeSet),
+    Erase(RangeSet),
     New(RangeSet),
     Move {
         target: RangeSet,
@@ -29,74 +40,39 @@ pub enum Command {
     },
     Stash(RangeSet),
     Free,
-    Patch,
+    Unsupported,
     Bad(usize),
 }
 
-// A command beside its hash, which is zero where the command has none.
+// A command beside its hash, which is zero where the command has none: the digest that the source must have, and the stash's name.
 pub struct Line {
     pub command: Command,
-    pub hash: [u8; 20],
+    pub hash: [u8; HASH_BYTES],
 }
 
-// A space, a range set and the line's end.
-fn read_last_set(l: &[u8], at: usize) -> Ranges
-    ensures { λ r. ⌜ r ≡ lastSetAt (now (l .entry)) at ⌝ }
+// N and the source of a `move`, after its target.
+fn read_length(l: &[u8], target: RangeSet, at: usize) -> Command
+    ensures { λ r. ⌜ r ≡ moveTo (now (l .entry)) target at ⌝ }
 {
-    let i = match read_mark(l, at, b' ') {
-        Mark::Past(i) => i,
-        Mark::Bad(p) => {
-            return Ranges::Bad(p);
-        }
-    };
-    match read_ranges(l, i) {
-        Ranges::Bad(p) => Ranges::Bad(p),
-        Ranges::Good(set, j) => match read_mark(l, j, b'\n') {
-            Mark::Past(next) => Ranges::Good(set, next),
-            Mark::Bad(p) => Ranges::Bad(p),
+    match read_number_field(l, at) {
+        Number::Bad(p) => Command::Bad(p),
+        Number::Good(length, i) => match read_source(l, i) {
+            SourceRead::Bad(p) => Command::Bad(p),
+            SourceRead::Good(source) => Command::Move {
+                target,
+                length,
+                source,
+            },
         },
     }
 }
 
-// What stands after the hash of a `move`.
 fn read_move(l: &[u8], at: usize) -> Command
     ensures { λ r. ⌜ r ≡ moveFrom (now (l .entry)) at ⌝ }
 {
-    let i = match read_mark(l, at, b' ') {
-        Mark::Past(i) => i,
-        Mark::Bad(p) => {
-            return Command::Bad(p);
-        }
-    };
-    match read_ranges(l, i) {
+    match read_set_field(l, at) {
         Ranges::Bad(p) => Command::Bad(p),
-        Ranges::Good(target, j) => {
-            let k = match read_mark(l, j, b' ') {
-                Mark::Past(k) => k,
-                Mark::Bad(p) => {
-                    return Command::Bad(p);
-                }
-            };
-            match read_number(l, k) {
-                Number::Bad(p) => Command::Bad(p),
-                Number::Good(length, m) => {
-                    let o = match read_mark(l, m, b' ') {
-                        Mark::Past(o) => o,
-                        Mark::Bad(p) => {
-                            return Command::Bad(p);
-                        }
-                    };
-                    match read_source(l, o) {
-                        SourceRead::Bad(p) => Command::Bad(p),
-                        SourceRead::Good(source) => Command::Move {
-                            target,
-                            length,
-                            source,
-                        },
-                    }
-                }
-            }
-        }
+        Ranges::Good(target, i) => read_length(l, target, i),
     }
 }
 
@@ -112,9 +88,36 @@ fn read_stash(l: &[u8], at: usize) -> Command
 fn read_free(l: &[u8], at: usize) -> Command
     ensures { λ r. ⌜ r ≡ freeFrom (now (l .entry)) at ⌝ }
 {
-    match read_mark(l, at, b'\n') {
-        Mark::Bad(p) => Command::Bad(p),
-        Mark::Past(_) => Command::Free,
+    match read_expected(l, at, b'\n') {
+        Expected::Bad(p) => Command::Bad(p),
+        Expected::Past(_) => Command::Free,
+    }
+}
+
+// What follows the hash, by the word.
+fn after_hash(l: &[u8], word: HashWord, read: Expected) -> Command
+    ensures { λ r. ⌜ r ≡ onExpected read (afterHash (now (l .entry)) word) Bad ⌝ }
+{
+    match read {
+        Expected::Bad(p) => Command::Bad(p),
+        Expected::Past(at) => match word {
+            HashWord::Move => read_move(l, at),
+            HashWord::Stash => read_stash(l, at),
+            HashWord::Free => read_free(l, at),
+        },
+    }
+}
+
+fn with_set(word: RangeWord, read: Ranges) -> Command
+    ensures { λ r. ⌜ r ≡ onRanges read (λ set next. withSet word set) Bad ⌝ }
+{
+    match read {
+        Ranges::Bad(p) => Command::Bad(p),
+        Ranges::Good(set, _) => match word {
+            RangeWord::Zero => Command::Zero(set),
+            RangeWord::Erase => Command::Erase(set),
+            RangeWord::New => Command::New(set),
+        },
     }
 }
 
@@ -123,129 +126,39 @@ fn without_hash(command: Command) -> Line
 {
     Line {
         command,
-        hash: [0u8; 20],
+        hash: [0u8; HASH_BYTES],
     }
 }
 
-// `zero` and `erase`: a word of `at` characters and a range set.
-fn zero_line(l: &[u8], at: usize) -> Line
-    ensures { λ r. ⌜ r ≡ sized (now (l .entry)) at Zero ⌝ }
+// `move`, `stash` and `free`: a word, a hash, and what follows it.
+fn hashed_line(l: &[u8], word: HashWord) -> Line
+    ensures { λ r. ⌜ r ≡ hashedLine (now (l .entry)) word ⌝ }
 {
-    match read_last_set(l, at) {
-        Ranges::Bad(p) => without_hash(Command::Bad(p)),
-        Ranges::Good(set, _) => without_hash(Command::Zero(set)),
-    }
-}
-
-fn new_line(l: &[u8]) -> Line
-    ensures { λ r. ⌜ r ≡ sized (now (l .entry)) 3 New ⌝ }
-{
-    match read_last_set(l, 3) {
-        Ranges::Bad(p) => without_hash(Command::Bad(p)),
-        Ranges::Good(set, _) => without_hash(Command::New(set)),
-    }
-}
-
-// A `move`, `stash` or `free`: a word, a space, a hash, and what follows it.
-fn move_line(l: &[u8]) -> Line
-    ensures { λ r. ⌜ r ≡ named (now (l .entry)) 4 (moveFrom (now (l .entry))) ⌝ }
-{
-    let i = match read_mark(l, 4, b' ') {
-        Mark::Past(i) => i,
-        Mark::Bad(p) => {
-            return without_hash(Command::Bad(p));
-        }
-    };
-    let h = read_hash(l, i);
+    let h = read_hash_field(l, word.len());
     let hash = h.bytes;
     let read = h.read;
-    match read {
-        Mark::Bad(p) => Line {
-            command: Command::Bad(p),
-            hash,
-        },
-        Mark::Past(j) => Line {
-            command: read_move(l, j),
-            hash,
-        },
+    Line {
+        command: after_hash(l, word, read),
+        hash,
     }
 }
 
-fn stash_line(l: &[u8]) -> Line
-    ensures { λ r. ⌜ r ≡ named (now (l .entry)) 5 (stashFrom (now (l .entry))) ⌝ }
+// `zero`, `erase` and `new`: a word and a range set.
+fn range_line(l: &[u8], word: RangeWord) -> Line
+    ensures { λ r. ⌜ r ≡ rangeLine (now (l .entry)) word ⌝ }
 {
-    let i = match read_mark(l, 5, b' ') {
-        Mark::Past(i) => i,
-        Mark::Bad(p) => {
-            return without_hash(Command::Bad(p));
-        }
-    };
-    let h = read_hash(l, i);
-    let hash = h.bytes;
-    let read = h.read;
-    match read {
-        Mark::Bad(p) => Line {
-            command: Command::Bad(p),
-            hash,
-        },
-        Mark::Past(j) => Line {
-            command: read_stash(l, j),
-            hash,
-        },
-    }
-}
-
-fn free_line(l: &[u8]) -> Line
-    ensures { λ r. ⌜ r ≡ named (now (l .entry)) 4 (freeFrom (now (l .entry))) ⌝ }
-{
-    let i = match read_mark(l, 4, b' ') {
-        Mark::Past(i) => i,
-        Mark::Bad(p) => {
-            return without_hash(Command::Bad(p));
-        }
-    };
-    let h = read_hash(l, i);
-    let hash = h.bytes;
-    let read = h.read;
-    match read {
-        Mark::Bad(p) => Line {
-            command: Command::Bad(p),
-            hash,
-        },
-        Mark::Past(j) => Line {
-            command: read_free(l, j),
-            hash,
-        },
-    }
+    without_hash(with_set(word, read_last_set(l, word.len())))
 }
 
 // The command of a line that is handed over as its part of the text.
 pub fn read_command(l: &[u8]) -> Line
     ensures { λ r. ⌜ r ≡ commandOf (now (l .entry)) ⌝ }
 {
-    if first_word_is(l, b"zero") {
-        return zero_line(l, 4);
+    match word_of(l) {
+        Word::Ranges(word) => range_line(l, word),
+        Word::Hash(word) => hashed_line(l, word),
+        Word::Bsdiff => without_hash(Command::Unsupported),
+        Word::Imgdiff => without_hash(Command::Unsupported),
+        Word::Unknown => without_hash(Command::Bad(0)),
     }
-    if first_word_is(l, b"erase") {
-        return zero_line(l, 5);
-    }
-    if first_word_is(l, b"new") {
-        return new_line(l);
-    }
-    if first_word_is(l, b"move") {
-        return move_line(l);
-    }
-    if first_word_is(l, b"stash") {
-        return stash_line(l);
-    }
-    if first_word_is(l, b"free") {
-        return free_line(l);
-    }
-    if first_word_is(l, b"bsdiff") {
-        return without_hash(Command::Patch);
-    }
-    if first_word_is(l, b"imgdiff") {
-        return without_hash(Command::Patch);
-    }
-    without_hash(Command::Bad(0))
 }

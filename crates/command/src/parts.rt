@@ -1,12 +1,13 @@
 // The stashes that a source names, each as `H:L`.
 ghost use mathlib.Core.Path.{_≡_};
-ghost use Rattle.command.specs.Parts.{partEnd, placesFrom, partAt, partsAt};
+ghost use Rattle.command.specs.Parts.{partEnd, placesFrom, partAt, partsAt, partsField};
+use ranges::RangeSet;
+use ranges::Ranges;
+use ranges::read_ranges;
+use text::expected::Expected;
+use text::expected::read_expected;
+use text::hash::HASH_BYTES;
 use text::hash::read_hash;
-use text::mark::Mark;
-use text::mark::read_mark;
-use text::ranges::RangeSet;
-use text::ranges::Ranges;
-use text::ranges::read_ranges;
 
 // The places of one stash and the position past what follows them: a space and another `H:L`, or the line's end.
 pub enum PartRead {
@@ -18,22 +19,23 @@ pub enum PartRead {
 // One `H:L`, with its hash beside.
 pub struct Part {
     pub read: PartRead,
-    pub hash: [u8; 20],
+    pub hash: [u8; HASH_BYTES],
 }
 
-pub enum PartsRead {
-    Good,
+// Where the first `H:L` stands, or the position of the fault.
+pub(crate) enum PartsRead {
+    Good(usize),
     Bad(usize),
 }
 
 fn read_part_end(l: &[u8], places: RangeSet, i: usize) -> PartRead
     ensures { λ r. ⌜ r ≡ partEnd (now (l .entry)) places i ⌝ }
 {
-    match read_mark(l, i, b'\n') {
-        Mark::Past(next) => PartRead::Last(places, next),
-        Mark::Bad(_) => match read_mark(l, i, b' ') {
-            Mark::Past(next) => PartRead::More(places, next),
-            Mark::Bad(p) => PartRead::Bad(p),
+    match read_expected(l, i, b'\n') {
+        Expected::Past(next) => PartRead::Last(places, next),
+        Expected::Bad(_) => match read_expected(l, i, b' ') {
+            Expected::Past(next) => PartRead::More(places, next),
+            Expected::Bad(p) => PartRead::Bad(p),
         },
     }
 }
@@ -41,9 +43,9 @@ fn read_part_end(l: &[u8], places: RangeSet, i: usize) -> PartRead
 fn read_places(l: &[u8], at: usize) -> PartRead
     ensures { λ r. ⌜ r ≡ placesFrom (now (l .entry)) at ⌝ }
 {
-    let i = match read_mark(l, at, b':') {
-        Mark::Past(i) => i,
-        Mark::Bad(p) => {
+    let i = match read_expected(l, at, b':') {
+        Expected::Past(i) => i,
+        Expected::Bad(p) => {
             return PartRead::Bad(p);
         }
     };
@@ -60,11 +62,11 @@ pub fn read_part(l: &[u8], at: usize) -> Part
     let hash = h.bytes;
     let read = h.read;
     match read {
-        Mark::Bad(p) => Part {
+        Expected::Bad(p) => Part {
             read: PartRead::Bad(p),
             hash,
         },
-        Mark::Past(i) => Part {
+        Expected::Past(i) => Part {
             read: read_places(l, i),
             hash,
         },
@@ -72,7 +74,7 @@ pub fn read_part(l: &[u8], at: usize) -> Part
 }
 
 // One or more to the line's end: checked here, and read again where they are used.
-pub fn check_parts(l: &[u8], first: usize) -> PartsRead
+pub(crate) fn check_parts(l: &[u8], first: usize) -> PartsRead
     ensures { λ r. ⌜ r ≡ partsAt (now (l .entry)) first ⌝ }
 {
     let mut at = first;
@@ -84,11 +86,20 @@ pub fn check_parts(l: &[u8], first: usize) -> PartsRead
                 return PartsRead::Bad(p);
             }
             PartRead::Last(_, _) => {
-                return PartsRead::Good;
+                return PartsRead::Good(first);
             }
             PartRead::More(_, next) => {
                 at = next;
             }
         }
+    }
+}
+
+pub(crate) fn read_parts_field(l: &[u8], at: usize) -> PartsRead
+    ensures { λ r. ⌜ r ≡ partsField (now (l .entry)) at ⌝ }
+{
+    match read_expected(l, at, b' ') {
+        Expected::Bad(p) => PartsRead::Bad(p),
+        Expected::Past(first) => check_parts(l, first),
     }
 }

@@ -1,9 +1,8 @@
 -- What the exported functions answer: document 01's outcomes as numbers.
 -- Assumes nothing: these are definitions.
-use mathlib.Core.Path.{_≡_}
-use mathlib.Core.List.{List}
 use Prim.Native.Nat.{ℕ}
-use Rattle.updater.specs.Cuts.{RunOf}
+use Rattle.updater.specs.Areas.{Areas}
+use Rattle.updater.specs.Calls.{Result}
 use Rattle.updater.specs.declared.Called.{Called}
 use Rattle.updater.specs.declared.Outcome.{Outcome}
 use Rattle.updater.specs.declared.Outcome.the-variants.{Done, More, Refused}
@@ -13,19 +12,19 @@ use Rattle.muongrabi.specs.declared.Answer.{Answer}
 abbrev pub outcomeNumber : Outcome → ℕ
 outcomeNumber Done = 0
 outcomeNumber More = 1
-outcomeNumber (Refused number line) = 2
+outcomeNumber (Refused refusal) = 2
 
 -- the refusal's number; 0 where nothing is refused
 abbrev pub refusalNumber : Outcome → ℕ
 refusalNumber Done = 0
 refusalNumber More = 0
-refusalNumber (Refused number line) = number
+refusalNumber (Refused refusal) = refusal .number
 
 -- the refusal's line; 0 where nothing is refused
 abbrev pub refusalLine : Outcome → ℕ
 refusalLine Done = 0
 refusalLine More = 0
-refusalLine (Refused number line) = line
+refusalLine (Refused refusal) = refusal .line
 
 abbrev pub answerOf : Called → Answer
 answerOf called =
@@ -37,8 +36,14 @@ answerOf called =
       taken = called .taken;
     }
 
--- an opening and the calls after it, answered
-pub record AnswersRun (s image₀ stash₀ work₀ bytes : List ℕ) (answer : Answer) (image stash work : List ℕ) : Type 0 where
-  pub called : Called
-  pub same : answer ≡ answerOf called
-  pub run : RunOf s image₀ stash₀ work₀ bytes called image stash work
+-- what a caller has after a call: the areas and the answer
+pub record Answered : Type 0 where
+  pub areas : Areas
+  pub answer : Answer
+
+abbrev pub answeredOf : Areas → Answer → Answered
+answeredOf areas answer = record { areas = areas; answer = answer }
+
+-- the same for the result of a call, or of an opening and its calls
+abbrev pub answered : Result → Answered
+answered r = answeredOf (r .areas) (answerOf (r .called))

@@ -2,9 +2,11 @@
 ghost use mathlib.Core.Path.{_≡_};
 ghost use Rattle.sha1.specs.Sha1.{sha1};
 ghost use Rattle.transfer_list.specs.Opening.{lengthsOf, openState};
-ghost use Rattle.updater.specs.Calls.{leaves, calledOf};
-ghost use Rattle.updater.specs.Steps.{placeOf};
-ghost use Rattle.muongrabi.specs.Answers.{answerOf, AnswersRun};
+ghost use Rattle.updater.specs.Areas.{areasOf};
+ghost use Rattle.updater.specs.Calls.{callOf};
+ghost use Rattle.updater.specs.Steps.{configOf};
+ghost use Rattle.sequence.specs.Cuts.{runCuts};
+ghost use Rattle.muongrabi.specs.Answers.{answerOf, answeredOf, answered};
 use state::State;
 use updater::Called;
 use updater::Outcome;
@@ -39,11 +41,11 @@ fn to_answer(called: Called) -> Answer
             line: 0,
             taken: called.taken,
         },
-        Outcome::Refused { number, line } => Answer {
+        Outcome::Refused(refusal) => Answer {
             state,
             outcome: 2,
-            number,
-            line,
+            number: refusal.number,
+            line: refusal.line,
             taken: called.taken,
         },
     }
@@ -75,10 +77,7 @@ pub extern "C" fn muongrabi_call(
     piece: &[u8],
     state: State,
 ) -> Answer
-    ensures { λ r. ⌜ r ≡ answerOf (calledOf (now (list .entry)) (now (piece .entry)) (placeOf (now (image .entry)) (now (stash .entry)) (now (work .entry)) state)) ⌝ }
-    ensures { λ _. ⌜ now (image .exit) ≡ leaves (now (list .entry)) (now (piece .entry)) (placeOf (now (image .entry)) (now (stash .entry)) (now (work .entry)) state) .image ⌝ }
-    ensures { λ _. ⌜ now (stash .exit) ≡ leaves (now (list .entry)) (now (piece .entry)) (placeOf (now (image .entry)) (now (stash .entry)) (now (work .entry)) state) .stash ⌝ }
-    ensures { λ _. ⌜ now (work .exit) ≡ leaves (now (list .entry)) (now (piece .entry)) (placeOf (now (image .entry)) (now (stash .entry)) (now (work .entry)) state) .work ⌝ }
+    ensures { λ r. ⌜ answeredOf (areasOf (now (image .exit)) (now (stash .exit)) (now (work .exit))) r ≡ answered (callOf (now (list .entry)) (now (piece .entry)) (configOf (areasOf (now (image .entry)) (now (stash .entry)) (now (work .entry))) state)) ⌝ }
 {
     to_answer(updater::call(list, image, stash, work, piece, state))
 }
@@ -93,7 +92,7 @@ pub extern "C" fn muongrabi_run(
     bytes: &[u8],
     cuts: &[usize],
 ) -> Answer
-    ensures { λ r. ⌜ AnswersRun (now (list .entry)) (now (image .entry)) (now (stash .entry)) (now (work .entry)) (now (bytes .entry)) r (now (image .exit)) (now (stash .exit)) (now (work .exit)) ⌝ }
+    ensures { λ r. ⌜ answeredOf (areasOf (now (image .exit)) (now (stash .exit)) (now (work .exit))) r ≡ answered (runCuts (now (list .entry)) (areasOf (now (image .entry)) (now (stash .entry)) (now (work .entry))) (now (bytes .entry)) (now (cuts .entry))) ⌝ }
 {
-    to_answer(updater::pieces::run_pieces(list, image, stash, work, bytes, cuts))
+    to_answer(sequence::run_pieces(list, image, stash, work, bytes, cuts))
 }

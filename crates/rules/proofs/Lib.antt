@@ -1,3 +1,4 @@
-pub mod ChoiceLaws
+pub mod BoundLaws
 pub mod PlaceLaws
 pub mod RuleLaws
+pub mod HeldLaws

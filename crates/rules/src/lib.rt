@@ -1,33 +1,37 @@
 // One line checked against what is held.
 ghost use mathlib.Core.Path.{_≡_};
-ghost use Rattle.state.specs.Stashes.{held};
-ghost use Rattle.rules.specs.Rules.{targetRefusal, stashRefusal, freeRefusal, refusalFor, checkedOf};
+ghost use mathlib.Core.List.{List};
+ghost use Prim.Native.Nat.{ℕ};
+ghost use Rattle.state.specs.Stashes.{tableAt, heldIn};
+ghost use Rattle.rules.specs.Rules.{targetRefusal, tooMuch, stashRefusal, freeRefusal, refusalFor, checkedOf};
 use crate::moves::check_move;
 use crate::moves::work_blocks;
 use command::Command;
 use command::Line;
 use command::read_command;
-use state::State;
+use ranges::RangeSet;
+use state::limits::HASH_BYTES;
 use state::limits::MOST_STASHES;
+use state::limits::TABLE_BYTES;
 use state::refusals::HELD_ALREADY;
 use state::refusals::LINE_FORM;
 use state::refusals::NO_ROOM;
 use state::refusals::NOT_HELD;
 use state::refusals::PAST_IMAGE;
 use state::refusals::PAST_WORK;
-use state::refusals::PATCH;
+use state::refusals::UNSUPPORTED;
 use state::stashes::Found;
 use state::stashes::blocks_before;
 use state::stashes::find_stash;
 use state::stashes::held_count;
 use state::sums::bounded_sum;
-use text::ranges::RangeSet;
 
-pub mod moves;
-pub mod places;
+pub mod held;
+mod moves;
+mod places;
 
 // The blocks of the image and of the work area; and lines 3 and 4 of the list: the most stashes and the most blocks held at once.
-pub struct Limits {
+pub struct Terms {
     pub image: usize,
     pub work: usize,
     pub stashes: u32,
@@ -40,70 +44,108 @@ pub struct Checked {
     pub refusal: usize,
 }
 
-fn check_target(limits: Limits, set: RangeSet) -> usize
-    ensures { λ r. ⌜ r ≡ targetRefusal limits set ⌝ }
+fn check_target(terms: Terms, set: RangeSet) -> usize
+    ensures { λ r. ⌜ r ≡ targetRefusal terms set ⌝ }
 {
-    if limits.image < set.end as usize {
+    if terms.image < set.end as usize {
         return PAST_IMAGE;
     }
     0
 }
 
-fn check_stash(limits: Limits, s: State, hash: [u8; 20], set: RangeSet) -> usize
-    ensures { λ r. ⌜ r ≡ stashRefusal limits (held s) hash set ⌝ }
+// Holding as many blocks more would pass line 3 or line 4.
+fn is_too_much(terms: Terms, sizes: &[usize; MOST_STASHES], count: usize, set: RangeSet) -> bool
+    ensures { λ r. ⌜ ((hashes : List ℕ) → r ≡ tooMuch terms (heldIn (tableAt hashes (now (sizes .entry)) count)) set) ⌝ }
 {
-    if limits.image < set.end as usize {
+    if terms.stashes as usize <= held_count(count) {
+        return true;
+    }
+    (terms.blocks as usize) < bounded_sum(blocks_before(sizes, count, MOST_STASHES), set.blocks)
+}
+
+fn check_stash<'a>(
+    terms: Terms,
+    hashes: &'a [u8; TABLE_BYTES],
+    sizes: &'a [usize; MOST_STASHES],
+    count: usize,
+    hash: [u8; HASH_BYTES],
+    set: RangeSet,
+) -> usize
+    ensures { λ r. ⌜ r ≡ stashRefusal terms (heldIn (tableAt (now (hashes .entry)) (now (sizes .entry)) count)) hash set ⌝ }
+{
+    if terms.image < set.end as usize {
         return PAST_IMAGE;
     }
-    if work_blocks(limits) < set.blocks {
+    if work_blocks(terms) < set.blocks {
         return PAST_WORK;
     }
-    if let Found::At(_) = find_stash(s, hash) {
+    if let Found::At(_) = find_stash(hashes, count, hash) {
         return HELD_ALREADY;
     }
-    if limits.stashes as usize <= held_count(s.count) {
-        return NO_ROOM;
-    }
-    if (limits.blocks as usize) < bounded_sum(blocks_before(s, MOST_STASHES), set.blocks) {
+    if is_too_much(terms, sizes, count, set) {
         return NO_ROOM;
     }
     0
 }
 
-fn check_free(s: State, hash: [u8; 20]) -> usize
-    ensures { λ r. ⌜ r ≡ freeRefusal (held s) hash ⌝ }
+fn check_free(hashes: &[u8; TABLE_BYTES], count: usize, hash: [u8; HASH_BYTES]) -> usize
+    ensures { λ r. ⌜ ((sizes : List ℕ) → r ≡ freeRefusal (heldIn (tableAt (now (hashes .entry)) sizes count)) hash) ⌝ }
 {
-    match find_stash(s, hash) {
+    match find_stash(hashes, count, hash) {
         Found::At(_) => 0,
         Found::Nothing => NOT_HELD,
     }
 }
 
-fn check_command(l: &[u8], limits: Limits, s: State, line: Line) -> usize
-    ensures { λ r. ⌜ r ≡ refusalFor (now (l .entry)) limits (held s) (line .hash) (line .command) ⌝ }
+fn check_command<'a>(
+    l: &[u8],
+    terms: Terms,
+    hashes: &'a [u8; TABLE_BYTES],
+    sizes: &'a [usize; MOST_STASHES],
+    count: usize,
+    line: Line,
+) -> usize
+    ensures { λ r. ⌜ r ≡
+        refusalFor (now (l .entry)) terms (heldIn (tableAt (now (hashes .entry)) (now (sizes .entry)) count)) (line .hash) (line .command) ⌝ }
 {
     let command = line.command;
     let hash = line.hash;
     match command {
-        Command::Zero(set) => check_target(limits, set),
-        Command::New(set) => check_target(limits, set),
+        Command::Zero(set) => check_target(terms, set),
+        Command::Erase(set) => check_target(terms, set),
+        Command::New(set) => check_target(terms, set),
         Command::Move {
             target,
             length,
             source,
-        } => check_move(l, limits, s, target, length as usize, source),
-        Command::Stash(set) => check_stash(limits, s, hash, set),
-        Command::Free => check_free(s, hash),
-        Command::Patch => PATCH,
+        } => check_move(
+            l,
+            terms,
+            hashes,
+            sizes,
+            count,
+            target,
+            length as usize,
+            source,
+        ),
+        Command::Stash(set) => check_stash(terms, hashes, sizes, count, hash, set),
+        Command::Free => check_free(hashes, count, hash),
+        Command::Unsupported => UNSUPPORTED,
         Command::Bad(_) => LINE_FORM,
     }
 }
 
-// A line that is handed over as its part of the text.
-pub fn check_line(l: &[u8], limits: Limits, s: State) -> Checked
-    ensures { λ r. ⌜ r ≡ checkedOf (now (l .entry)) limits (held s) ⌝ }
+// A line that is handed over as its part of the text, checked against the table of the stashes held.
+pub fn check_line<'a>(
+    l: &[u8],
+    terms: Terms,
+    hashes: &'a [u8; TABLE_BYTES],
+    sizes: &'a [usize; MOST_STASHES],
+    count: usize,
+) -> Checked
+    ensures { λ r. ⌜ r ≡ checkedOf (now (l .entry)) terms (heldIn (tableAt (now (hashes .entry)) (now (sizes .entry)) count)) ⌝ }
 {
     let line = read_command(l);
-    let refusal = check_command(l, limits, s, line);
+    let refusal = check_command(l, terms, hashes, sizes, count, line);
     Checked { line, refusal }
 }

@@ -1,18 +1,22 @@
 // The rules of a `move`.
 ghost use mathlib.Core.Path.{_≡_};
-ghost use Prim.Native.Nat.{_<_};
 ghost use mathlib.Core.List.{List};
-ghost use Rattle.state.specs.Stashes.{Stash, held};
-ghost use Rattle.command.specs.Parts.{Named, namedAt};
-ghost use Rattle.rules.specs.Move.{workBlocks, sizeFound, sourcePast, sourceOver, namedBy, sourceDiffers, moveRefusal};
+ghost use Prim.Native.Nat.{ℕ, _<_};
+ghost use Rattle.state.specs.Stashes.{Stash, tableAt, heldIn};
+ghost use Rattle.state.specs.Sums.{bound};
+ghost use Rattle.command.specs.Parts.{usesAt};
+ghost use Rattle.rules.specs.Move.{workBlocks, sizeFound, sourcePast, sourceOver, usesBy, sourceDiffers, moveRefusal};
 ghost use Rattle.rules.specs.Sums.{sumsOf, sumsWith};
-use crate::Limits;
+use crate::Terms;
 use crate::places::places_fit;
 use command::parts::PartRead;
 use command::parts::read_part;
 use command::source::Source;
-use state::State;
+use ranges::RangeSet;
+use state::limits::HASH_BYTES;
 use state::limits::MOST_AREA_BLOCKS;
+use state::limits::MOST_STASHES;
+use state::limits::TABLE_BYTES;
 use state::refusals::MISPLACED;
 use state::refusals::NOT_HELD;
 use state::refusals::PAST_IMAGE;
@@ -22,13 +26,12 @@ use state::stashes::Found;
 use state::stashes::find_stash;
 use state::stashes::stash_blocks;
 use state::sums::bounded_sum;
-use text::ranges::RangeSet;
 
 // The work area's blocks; none is larger than the limit.
-pub fn work_blocks(limits: Limits) -> usize
-    ensures { λ r. ⌜ r ≡ workBlocks limits ⌝ }
+pub(crate) fn work_blocks(terms: Terms) -> usize
+    ensures { λ r. ⌜ r ≡ workBlocks terms ⌝ }
 {
-    let work = limits.work;
+    let work = terms.work;
     if MOST_AREA_BLOCKS < work {
         MOST_AREA_BLOCKS
     } else {
@@ -36,58 +39,65 @@ pub fn work_blocks(limits: Limits) -> usize
     }
 }
 
-fn source_past(limits: Limits, source: Source) -> bool
-    ensures { λ r. ⌜ r ≡ sourcePast limits source ⌝ }
+fn source_past(terms: Terms, source: Source) -> bool
+    ensures { λ r. ⌜ r ≡ sourcePast terms source ⌝ }
 {
     match source {
-        Source::Blocks(set) => limits.image < set.end as usize,
+        Source::Blocks(set) => terms.image < set.end as usize,
         Source::Stashes(_) => false,
         Source::Both {
             blocks,
             places: _,
             first: _,
-        } => limits.image < blocks.end as usize,
+        } => terms.image < blocks.end as usize,
     }
 }
 
-fn source_over(limits: Limits, source: Source) -> bool
-    ensures { λ r. ⌜ r ≡ sourceOver limits source ⌝ }
+fn source_over(terms: Terms, source: Source) -> bool
+    ensures { λ r. ⌜ r ≡ sourceOver terms source ⌝ }
 {
     match source {
-        Source::Blocks(set) => work_blocks(limits) < set.blocks,
+        Source::Blocks(set) => work_blocks(terms) < set.blocks,
         Source::Stashes(_) => false,
         Source::Both {
             blocks,
             places: _,
             first: _,
-        } => work_blocks(limits) < blocks.blocks,
+        } => work_blocks(terms) < blocks.blocks,
     }
 }
 
 // What the stashes that a source names come to: one is not held, one differs from its L, and all their places together.
-pub struct Sums {
-    pub missing: bool,
-    pub differs: bool,
-    pub places: usize,
+struct Sums {
+    missing: bool,
+    differs: bool,
+    places: usize,
 }
 
 // The blocks of a stash that was looked for; 0 where it is not held.
-fn found_blocks(s: State, found: Found) -> usize
-    ensures { λ r. ⌜ r ≡ sizeFound (held s) found ⌝ }
+fn found_blocks(sizes: &[usize; MOST_STASHES], count: usize, found: Found) -> usize
+    ensures { λ r. ⌜ ((hashes : List ℕ) → r ≡ sizeFound (heldIn (tableAt hashes (now (sizes .entry)) count)) found) ⌝ }
 {
     match found {
-        Found::At(j) => stash_blocks(s, j),
+        Found::At(j) => stash_blocks(sizes, count, j),
         Found::Nothing => 0,
     }
 }
 
 // The sums with one stash more, named with as many places.
-fn add_stash(sums: Sums, s: State, hash: [u8; 20], places: usize) -> Sums
-    ensures { λ r. ⌜ r ≡ sumsWith sums (held s) hash places ⌝ }
+fn add_stash<'a>(
+    sums: Sums,
+    hashes: &'a [u8; TABLE_BYTES],
+    sizes: &'a [usize; MOST_STASHES],
+    count: usize,
+    hash: [u8; HASH_BYTES],
+    places: usize,
+) -> Sums
+    ensures { λ r. ⌜ r ≡ sumsWith sums (heldIn (tableAt (now (hashes .entry)) (now (sizes .entry)) count)) hash places ⌝ }
 {
     let total = bounded_sum(sums.places, places);
-    let found = find_stash(s, hash);
-    let differs = if found_blocks(s, found) == places {
+    let found = find_stash(hashes, count, hash);
+    let differs = if found_blocks(sizes, count, found) == places {
         sums.differs
     } else {
         true
@@ -106,8 +116,15 @@ fn add_stash(sums: Sums, s: State, hash: [u8; 20], places: usize) -> Sums
     }
 }
 
-fn sum_stashes(l: &[u8], first: usize, s: State) -> Sums
-    ensures { λ r. ⌜ r ≡ sumsOf (held s) (namedAt (now (l .entry)) first) ⌝ }
+fn sum_stashes<'a>(
+    l: &[u8],
+    first: usize,
+    hashes: &'a [u8; TABLE_BYTES],
+    sizes: &'a [usize; MOST_STASHES],
+    count: usize,
+) -> Sums
+    ensures { λ r. ⌜ r ≡
+        sumsOf (heldIn (tableAt (now (hashes .entry)) (now (sizes .entry)) count)) (usesAt (now (l .entry)) first) ⌝ }
 {
     let mut sums = Sums {
         missing: false,
@@ -124,18 +141,25 @@ fn sum_stashes(l: &[u8], first: usize, s: State) -> Sums
                 return sums;
             }
             PartRead::Last(places, _) => {
-                return add_stash(sums, s, hash, places.blocks);
+                return add_stash(sums, hashes, sizes, count, hash, places.blocks);
             }
             PartRead::More(places, next) => {
-                sums = add_stash(sums, s, hash, places.blocks);
+                sums = add_stash(sums, hashes, sizes, count, hash, places.blocks);
                 at = next;
             }
         }
     }
 }
 
-fn source_sums(l: &[u8], s: State, source: Source) -> Sums
-    ensures { λ r. ⌜ r ≡ sumsOf (held s) (namedBy (now (l .entry)) source) ⌝ }
+fn source_sums<'a>(
+    l: &[u8],
+    hashes: &'a [u8; TABLE_BYTES],
+    sizes: &'a [usize; MOST_STASHES],
+    count: usize,
+    source: Source,
+) -> Sums
+    ensures { λ r. ⌜ r ≡
+        sumsOf (heldIn (tableAt (now (hashes .entry)) (now (sizes .entry)) count)) (usesBy (now (l .entry)) source) ⌝ }
 {
     match source {
         Source::Blocks(_) => Sums {
@@ -143,19 +167,19 @@ fn source_sums(l: &[u8], s: State, source: Source) -> Sums
             differs: false,
             places: 0,
         },
-        Source::Stashes(first) => sum_stashes(l, first, s),
+        Source::Stashes(first) => sum_stashes(l, first, hashes, sizes, count),
         Source::Both {
             blocks: _,
             places: _,
             first,
-        } => sum_stashes(l, first, s),
+        } => sum_stashes(l, first, hashes, sizes, count),
     }
 }
 
-// The sums are those of the stashes that the source names.
+// 11 of a source, by the sums of the stashes that it names.
 fn source_differs(n: usize, source: Source, sums: Sums) -> bool
-    ensures { λ r. ⌜ ((held : List Stash) (ps : List Named) →
-        sums ≡ sumsOf held ps → n < 4294967296 → r ≡ sourceDiffers held ps n source) ⌝ }
+    ensures { λ r. ⌜ ((l : List ℕ) (held : List Stash) →
+        sums ≡ sumsOf held (usesBy l source) → n < bound → r ≡ sourceDiffers l held n source) ⌝ }
 {
     match source {
         Source::Blocks(set) => set.blocks != n,
@@ -182,30 +206,33 @@ fn source_differs(n: usize, source: Source, sums: Sums) -> bool
 }
 
 // The lowest number that applies to a `move`, 0 for none.
-pub(crate) fn check_move(
+pub(crate) fn check_move<'a>(
     l: &[u8],
-    limits: Limits,
-    s: State,
+    terms: Terms,
+    hashes: &'a [u8; TABLE_BYTES],
+    sizes: &'a [usize; MOST_STASHES],
+    count: usize,
     target: RangeSet,
     n: usize,
     source: Source,
 ) -> usize
-    requires { ⌜ n < 4294967296 ⌝ }
-    ensures { λ r. ⌜ r ≡ moveRefusal (now (l .entry)) limits (held s) target n source ⌝ }
+    requires { ⌜ n < bound ⌝ }
+    ensures { λ r. ⌜ r ≡
+        moveRefusal (now (l .entry)) terms (heldIn (tableAt (now (hashes .entry)) (now (sizes .entry)) count)) target n source ⌝ }
 {
-    if limits.image < target.end as usize {
+    if terms.image < target.end as usize {
         return PAST_IMAGE;
     }
-    if source_past(limits, source) {
+    if source_past(terms, source) {
         return PAST_IMAGE;
     }
-    if work_blocks(limits) < n {
+    if work_blocks(terms) < n {
         return PAST_WORK;
     }
-    if source_over(limits, source) {
+    if source_over(terms, source) {
         return PAST_WORK;
     }
-    let sums = source_sums(l, s, source);
+    let sums = source_sums(l, hashes, sizes, count, source);
     if sums.missing {
         return NOT_HELD;
     }

@@ -1,25 +1,24 @@
-// The places of a put-together source, marked as they are taken.
+// The places of a put-together source, each marked as it is taken.
 ghost use mathlib.Core.Path.{_≡_};
-ghost use mathlib.Core.List.{[]};
 ghost use Prim.Native.Nat.{_≤_};
 ghost use Rattle.text.specs.Choice.{no};
-ghost use Rattle.text.specs.Walk.{blocksAt};
+ghost use Rattle.ranges.specs.Walk.{blocksAt};
 ghost use Rattle.state.specs.Limits.{mostAreaBlocks};
-ghost use Rattle.command.specs.Parts.{namedAt};
-ghost use Rattle.rules.specs.Marks.{Marks};
-ghost use Rattle.rules.specs.Move.{namedBy, placesOf, placesBy, someMisplaced};
+ghost use Rattle.command.specs.Parts.{usesAt};
+ghost use Rattle.rules.specs.Move.{placesOf, sourceMisplaced};
+ghost use Rattle.rules.specs.Taken.{Takes};
 use command::parts::PartRead;
 use command::parts::read_part;
 use command::source::Source;
+use ranges::walk::Step;
+use ranges::walk::next_block;
+use ranges::walk::walk_from;
 use state::limits::MOST_AREA_BLOCKS;
-use text::walk::Step;
-use text::walk::next_block;
-use text::walk::walk_from;
 
-// Marks the places of the set at a position; false where one is at n or above, or taken already.
-fn mark_set(l: &[u8], at: usize, n: usize, marks: &mut [u8; MOST_AREA_BLOCKS]) -> bool
+// Takes the places of the set at a position; false where one is at n or above, or taken already.
+fn take_places(l: &[u8], at: usize, n: usize, taken: &mut [u8; MOST_AREA_BLOCKS]) -> bool
     requires { ⌜ n ≤ mostAreaBlocks ⌝ }
-    ensures { λ r. ⌜ Marks n (now (marks .entry)) (now (marks .exit)) (blocksAt (now (l .entry)) at) r ⌝ }
+    ensures { λ r. ⌜ Takes mostAreaBlocks n (now (taken .entry)) (now (taken .exit)) (blocksAt (now (l .entry)) at) r ⌝ }
 {
     let mut w = walk_from(l, at);
     loop {
@@ -32,21 +31,21 @@ fn mark_set(l: &[u8], at: usize, n: usize, marks: &mut [u8; MOST_AREA_BLOCKS]) -
                 if n <= p {
                     return false;
                 }
-                if marks[p] != 0 {
+                if taken[p] != 0 {
                     return false;
                 }
-                marks[p] = 1;
+                taken[p] = 1;
                 w = rest;
             }
         }
     }
 }
 
-// Marks the places of every stash named from a position on.
-fn mark_named(l: &[u8], first: usize, n: usize, marks: &mut [u8; MOST_AREA_BLOCKS]) -> bool
+// Takes the places of every stash named from a position on.
+fn take_uses(l: &[u8], first: usize, n: usize, taken: &mut [u8; MOST_AREA_BLOCKS]) -> bool
     requires { ⌜ n ≤ mostAreaBlocks ⌝ }
-    ensures { λ r.
-        ⌜ Marks n (now (marks .entry)) (now (marks .exit)) (placesOf (now (l .entry)) (namedAt (now (l .entry)) first)) r ⌝ }
+    ensures { λ r. ⌜ Takes mostAreaBlocks n (now (taken .entry)) (now (taken .exit))
+        (placesOf (now (l .entry)) (usesAt (now (l .entry)) first)) r ⌝ }
 {
     let mut at = first;
     loop {
@@ -57,10 +56,10 @@ fn mark_named(l: &[u8], first: usize, n: usize, marks: &mut [u8; MOST_AREA_BLOCK
                 return true;
             }
             PartRead::Last(places, _) => {
-                return mark_set(l, places.at, n, marks);
+                return take_places(l, places.at, n, taken);
             }
             PartRead::More(places, next) => {
-                if !mark_set(l, places.at, n, marks) {
+                if !take_places(l, places.at, n, taken) {
                     return false;
                 }
                 at = next;
@@ -72,21 +71,24 @@ fn mark_named(l: &[u8], first: usize, n: usize, marks: &mut [u8; MOST_AREA_BLOCK
 // No place of the source is at n or above, and none is taken twice.
 pub(crate) fn places_fit(l: &[u8], n: usize, source: Source) -> bool
     requires { ⌜ n ≤ mostAreaBlocks ⌝ }
-    ensures { λ r. ⌜ r ≡ no (someMisplaced n [] (placesBy (now (l .entry)) (namedBy (now (l .entry)) source) source)) ⌝ }
+    ensures { λ r. ⌜ r ≡ no (sourceMisplaced (now (l .entry)) n source) ⌝ }
 {
-    let mut marks = [0u8; MOST_AREA_BLOCKS];
     match source {
         Source::Blocks(_) => true,
-        Source::Stashes(first) => mark_named(l, first, n, &mut marks),
+        Source::Stashes(first) => {
+            let mut taken = [0u8; MOST_AREA_BLOCKS];
+            take_uses(l, first, n, &mut taken)
+        }
         Source::Both {
             blocks: _,
             places,
             first,
         } => {
-            if !mark_set(l, places.at, n, &mut marks) {
+            let mut taken = [0u8; MOST_AREA_BLOCKS];
+            if !take_places(l, places.at, n, &mut taken) {
                 return false;
             }
-            mark_named(l, first, n, &mut marks)
+            take_uses(l, first, n, &mut taken)
         }
     }
 }

@@ -6,7 +6,7 @@ use native.Mathlib.Omega.{arith}
 use native.Mathlib.Nat.{mod-add-mod, mod-mod}
 use lib.ListN.{length, getD, take, length-append}
 use lib.Seq.{length-take-le}
-use Rattle.sha1.specs.declared.State.{State}
+use Rattle.sha1.specs.declared.HashValue.{HashValue}
 use Rattle.sha1.specs.declared.Hasher.{Hasher}
 use Rattle.sha1.specs.Sha1.{bytes, initial, hash, output, padded, sha1, sha1-is}
 use Rattle.sha1.specs.Sha1.Padding.{length-bytes}
@@ -17,7 +17,7 @@ use Rattle.sha1.proofs.PaddingLaws.{padded-join, padded-wrap}
 
 -- ---- the digest
 
-length-output : (h : State) → length (output h) ≡ 20
+length-output : (h : HashValue) → length (output h) ≡ 20
 unfolding output
 length-output h = simp (length-append, length-bytes)
 
@@ -26,7 +26,7 @@ below-append [] b ha hb k = hb k
 below-append (x ∷ a) b ha hb zero = ha zero
 below-append (x ∷ a) b ha hb (suc k) = below-append a b (λ j. ha (suc j)) hb k
 
-output-below : (h : State) (k : ℕ) → getD (output h) k 0 < 256
+output-below : (h : HashValue) (k : ℕ) → getD (output h) k 0 < 256
 unfolding output
 output-below h =
     let below : (x k : ℕ) → getD (bytes 4 x) k 0 < 256 = bytes-below 4 in
@@ -49,14 +49,14 @@ sha1-byte m k = rw sha1-is (output-below (hash initial (padded m (length m))) k)
 
 -- ---- a message taken in pieces
 
-same-hasher : (g h : State) (n k : ℕ) → g ≡ h → n ≡ k → _≡_ {A = Hasher} (record { state = g; count = n }) (record { state = h; count = k })
+same-hasher : (g h : HashValue) (n k : ℕ) → g ≡ h → n ≡ k → _≡_ {A = Hasher} (record { value = g; count = n }) (record { value = h; count = k })
 same-hasher g h n k e d = rw (e, d)
 
 -- a piece of less than a block changes nothing
 pub absorbed-short : (h : Hasher) (s : List ℕ) → h .count < 2 ^ 64 → length s < 64 → absorbed h s ≡ h
 absorbed-short h s c l =
     absorbed-is h s
-    ∙ same-hasher _ (h .state) _ (h .count) (hash-short (h .state) s l)
+    ∙ same-hasher _ (h .value) _ (h .count) (hash-short (h .value) s l)
     (omega arith)
 
 -- the empty piece changes nothing
@@ -69,7 +69,7 @@ absorbed-whole h s n e =
     let l : length (take n s) ≡ n = length-take-le n s (omega arith) in
     let k : length (take n s) / 64 ≡ length s / 64 = omega arith in
     absorbed-is h (take n s)
-    ∙ same-hasher _ _ _ _ (hash-whole (h .state) s n e) (ap (λ (j : ℕ). (h .count + j * 64) % 2 ^ 64) k)
+    ∙ same-hasher _ _ _ _ (hash-whole (h .value) s n e) (ap (λ (j : ℕ). (h .count + j * 64) % 2 ^ 64) k)
     ∙ sym (absorbed-is h s)
 
 -- the count stays below 2 ^ 64
@@ -83,8 +83,8 @@ absorbed-join h a b w =
     let c : ((h .count + length a / 64 * 64) % 2 ^ 64 + length b / 64 * 64) % 2 ^ 64 ≡ (h .count + length (a ++ b) / 64 * 64) % 2 ^ 64
     = mod-add-mod (h .count + length a / 64 * 64) (2 ^ 64) (length b / 64 * 64) ∙ ap (λ (n : ℕ). n % 2 ^ 64) (omega arith) in
     ap (λ (g : Hasher). absorbed g b) (absorbed-is h a)
-    ∙ absorbed-is (record { state = hash (h .state) a; count = (h .count + length a / 64 * 64) % 2 ^ 64 }) b
-    ∙ same-hasher _ _ _ _ (sym (hash-join (h .state) a b w)) c
+    ∙ absorbed-is (record { value = hash (h .value) a; count = (h .count + length a / 64 * 64) % 2 ^ 64 }) b
+    ∙ same-hasher _ _ _ _ (sym (hash-join (h .value) a b w)) c
     ∙ sym (absorbed-is h (a ++ b))
 
 -- a hasher that has taken in nothing has taken in the empty message
@@ -97,8 +97,8 @@ finished-absorbed m w =
     let c : ℕ = (0 + length m / 64 * 64) % 2 ^ 64 in
     let k : c % 2 ^ 64 ≡ length m % 2 ^ 64 = ap (λ (n : ℕ). n % 2 ^ 64 % 2 ^ 64) (omega arith) ∙ mod-mod (length m) (2 ^ 64) in
     ap (λ (h : Hasher). finished (absorbed h m)) started-is
-    ∙ ap finished (absorbed-is (record { state = initial; count = 0 }) m)
-    ∙ finished-is (record { state = hash initial m; count = c })
+    ∙ ap finished (absorbed-is (record { value = initial; count = 0 }) m)
+    ∙ finished-is (record { value = hash initial m; count = c })
     ∙ ap (λ (p : List ℕ). output (hash (hash initial m) p)) (padded-wrap [] c (length m) k)
     ∙ ap output (sym (hash-join initial m (padded [] (length m)) w))
     ∙ ap (λ (p : List ℕ). output (hash initial p)) (sym (padded-join m [] (length m) w))

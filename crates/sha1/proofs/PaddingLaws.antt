@@ -7,7 +7,7 @@ use native.Mathlib.Nat.{sub-zero, zero-sub, suc-sub-suc}
 use native.Mathlib.Numerals.{add-one}
 use lib.ListN.{length, getD, take, drop, set, replicate, length-append, length-drop, length-replicate, take-append-drop}
 use lib.Seq.{length-take-le, take-all, take-suc, drop-cons, append-snoc, set-at, set-append-seam, take-append-add, paste, length-paste, take-paste}
-use Rattle.sha1.specs.declared.State.{State}
+use Rattle.sha1.specs.declared.HashValue.{HashValue}
 use Rattle.sha1.specs.Sha1 as S
 use Rattle.sha1.specs.Sha1.Padding.{length-bytes}
 use Rattle.sha1.proofs.WordLaws.{same-bytes}
@@ -26,7 +26,7 @@ unfolding S.padded
 padded-wrap r n k e = rw (same-bytes (8 * n) (8 * k) (omega arith))
 
 -- the digest by the whole blocks, and then what is left with its padding
-pub hash-padded : (h : State) (m : List ℕ) (n at : ℕ) → at ≡ length m / 64 * 64
+pub hash-padded : (h : HashValue) (m : List ℕ) (n at : ℕ) → at ≡ length m / 64 * 64
     → S.hash h (S.padded m n) ≡ S.hash (S.hash h m) (S.padded (drop at m) n)
 hash-padded h m n at e =
     let l : length (take at m) ≡ at = length-take-le at m (omega arith) in
@@ -34,7 +34,7 @@ hash-padded h m n at e =
     ap (λ (s : List ℕ). S.hash h (S.padded s n)) (sym (take-append-drop at m))
     ∙ ap (S.hash h) (padded-join (take at m) (drop at m) n w)
     ∙ hash-join h (take at m) (S.padded (drop at m) n) w
-    ∙ ap (λ (g : State). S.hash g (S.padded (drop at m) n)) (hash-whole h m at e)
+    ∙ ap (λ (g : HashValue). S.hash g (S.padded (drop at m) n)) (hash-whole h m at e)
 
 -- ---- a buffer that is written in place
 

@@ -6,11 +6,11 @@ use native.Mathlib.Omega.{arith}
 use native.Mathlib.Nat.{add-zero, add-suc, zero-add}
 use borrow.Author.Tests.{lt-ltb, le-ltb}
 use lib.ListN.{getD}
-use Rattle.sha1.specs.declared.State.{State}
+use Rattle.sha1.specs.declared.HashValue.{HashValue}
 use Rattle.sha1.specs.Sha1 as S
 
 -- the rounds from 0 on are the first of them, and then the others
-pub rounds-join : (W : List ℕ) (n k : ℕ) (v : State) → S.rounds W 0 (n + k) v ≡ S.rounds W n k (S.rounds W 0 n v)
+pub rounds-join : (W : List ℕ) (n k : ℕ) (v : HashValue) → S.rounds W 0 (n + k) v ≡ S.rounds W n k (S.rounds W 0 n v)
 unfolding S.rounds
 rounds-join W n zero v = ap (λ (j : ℕ). S.rounds W 0 j v) (add-zero n)
 rounds-join W n (suc k) v =
@@ -19,15 +19,15 @@ rounds-join W n (suc k) v =
     ∙ ap (S.round W (n + k)) (rounds-join W n k v)
 
 -- the four groups of rounds are all the rounds
-pub rounds-all : (W : List ℕ) (v : State)
+pub rounds-all : (W : List ℕ) (v : HashValue)
     → S.rounds W 60 20 (S.rounds W 40 20 (S.rounds W 20 20 (S.rounds W 0 20 v))) ≡ S.rounds W 0 80 v
 rounds-all W v =
-    ap (λ (u : State). S.rounds W 60 20 (S.rounds W 40 20 u)) (sym (rounds-join W 20 20 v))
+    ap (λ (u : HashValue). S.rounds W 60 20 (S.rounds W 40 20 u)) (sym (rounds-join W 20 20 v))
     ∙ ap (S.rounds W 60 20) (sym (rounds-join W 40 20 v))
     ∙ sym (rounds-join W 60 20 v)
 
 -- one round more of those from s on, by the four ranges of t
-module _ (W : List ℕ) (s t : ℕ) (h u : State) (g : s ≤ t) (e : u ≡ S.rounds W s (t - s) h) where
+module _ (W : List ℕ) (s t : ℕ) (h u : HashValue) (g : s ≤ t) (e : u ≡ S.rounds W s (t - s) h) where
   more : S.round W t u ≡ S.rounds W s (t + 1 - s) h
   unfolding S.rounds
   more =

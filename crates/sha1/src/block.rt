@@ -3,7 +3,7 @@ ghost use mathlib.Core.Path.{_≡_};
 ghost use Prim.Native.Nat.{_+_, _≤_};
 ghost use lib.ListN.{length};
 ghost use Rattle.sha1.specs.Sha1 as Sha1;
-use crate::State;
+use crate::HashValue;
 use crate::hash_value::plus;
 use crate::rounds::rounds_0_19;
 use crate::rounds::rounds_20_39;
@@ -12,7 +12,7 @@ use crate::rounds::rounds_60_79;
 use crate::schedule::schedule;
 
 // h taken on by the block that starts at `at`.
-fn compress(h: State, s: &[u8], at: usize) -> State
+fn compress(h: HashValue, s: &[u8], at: usize) -> HashValue
     requires { ⌜ at + 64 ≤ length (now s) ⌝ }
     ensures { λ r. ⌜ r ≡ Sha1.compress h (now (s .entry)) at ⌝ }
 {
@@ -25,7 +25,7 @@ fn compress(h: State, s: &[u8], at: usize) -> State
 }
 
 // h taken on by every whole block of s.
-pub(crate) fn hash(h: State, s: &[u8]) -> State
+pub(crate) fn hash(h: HashValue, s: &[u8]) -> HashValue
     ensures { λ r. ⌜ r ≡ Sha1.hash h (now (s .entry)) ⌝ }
 {
     let n = s.len() / 64;

@@ -1,14 +1,14 @@
 // Hash values: the initial one (FIPS 180-4, 5.3.1), the sum of two (6.1.2, 4), and the digest of the last.
 ghost use mathlib.Core.Path.{_≡_};
 ghost use Rattle.sha1.specs.Sha1 as Sha1;
-use crate::State;
+use crate::HashValue;
 use crate::word::add;
 use crate::word::byte;
 
-pub(crate) fn initial() -> State
+pub(crate) fn initial() -> HashValue
     ensures { λ r. ⌜ r ≡ Sha1.initial ⌝ }
 {
-    State {
+    HashValue {
         a: 0x6745_2301,
         b: 0xefcd_ab89,
         c: 0x98ba_dcfe,
@@ -17,10 +17,10 @@ pub(crate) fn initial() -> State
     }
 }
 
-pub(crate) fn plus(h: State, v: State) -> State
+pub(crate) fn plus(h: HashValue, v: HashValue) -> HashValue
     ensures { λ r. ⌜ r ≡ Sha1.plus h v ⌝ }
 {
-    State {
+    HashValue {
         a: add(h.a, v.a),
         b: add(h.b, v.b),
         c: add(h.c, v.c),
@@ -29,7 +29,7 @@ pub(crate) fn plus(h: State, v: State) -> State
     }
 }
 
-pub(crate) fn output(h: State) -> [u8; 20]
+pub(crate) fn output(h: HashValue) -> [u8; 20]
     ensures { λ r. ⌜ r ≡ Sha1.output h ⌝ }
 {
     [

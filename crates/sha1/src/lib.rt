@@ -12,7 +12,7 @@ ghost use Rattle.sha1.specs.Sha1.{sha1};
 ghost use Rattle.sha1.specs.Pieces.{started, absorbed, finished};
 
 // A hash value: FIPS's H0 to H4, and its working variables a to e.
-pub struct State {
+pub struct HashValue {
     pub a: u32,
     pub b: u32,
     pub c: u32,
@@ -22,7 +22,7 @@ pub struct State {
 
 // What a message's first pieces come to: the hash value, and how many bytes they have, modulo 2^64.
 pub struct Hasher {
-    pub state: State,
+    pub value: HashValue,
     pub count: u64,
 }
 
@@ -40,7 +40,7 @@ pub fn start() -> Hasher
     ensures { λ r. ⌜ r ≡ started ⌝ }
 {
     Hasher {
-        state: hash_value::initial(),
+        value: hash_value::initial(),
         count: 0,
     }
 }
@@ -51,7 +51,7 @@ pub fn absorb(h: Hasher, s: &[u8]) -> Hasher
 {
     let taken = s.len() / 64 * 64;
     Hasher {
-        state: block::hash(h.state, s),
+        value: block::hash(h.value, s),
         count: std::num::wrapping_add_u64(h.count, taken as u64),
     }
 }
@@ -60,5 +60,5 @@ pub fn absorb(h: Hasher, s: &[u8]) -> Hasher
 pub fn finish(h: Hasher) -> [u8; 20]
     ensures { λ r. ⌜ r ≡ finished h ⌝ }
 {
-    padding::close(h.state, b"", h.count)
+    padding::close(h.value, b"", h.count)
 }

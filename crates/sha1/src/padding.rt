@@ -5,7 +5,7 @@ ghost use Prim.Native.Nat.{_+_, _≤_, _<_};
 ghost use lib.ListN.{length, drop};
 ghost use lib.Seq.{paste};
 ghost use Rattle.sha1.specs.Sha1 as Sha1;
-use crate::State;
+use crate::HashValue;
 use crate::block::hash;
 use crate::hash_value::output;
 use crate::word::byte64;
@@ -48,7 +48,7 @@ fn put_number(b: &mut [u8; 128], at: usize, x: u64)
 }
 
 // The digest of a message of n bytes, modulo 2^64, where h has its whole blocks and rest is what is left.
-pub(crate) fn close(h: State, rest: &[u8], n: u64) -> [u8; 20]
+pub(crate) fn close(h: HashValue, rest: &[u8], n: u64) -> [u8; 20]
     requires { ⌜ length (now rest) < 64 ⌝ }
     ensures { λ r. ⌜ r ≡ Sha1.output (Sha1.hash h (Sha1.padded (now (rest .entry)) n)) ⌝ }
 {

@@ -1,7 +1,7 @@
 // The eighty rounds: FIPS 180-4, 6.1.2, 3, in four groups of one function f_t and one constant K_t each.
 ghost use mathlib.Core.Path.{_≡_};
 ghost use Rattle.sha1.specs.Sha1 as Sha1;
-use crate::State;
+use crate::HashValue;
 use crate::word::ch;
 use crate::word::maj;
 use crate::word::parity;
@@ -9,10 +9,10 @@ use crate::word::rotl5;
 use crate::word::rotl30;
 use crate::word::sum;
 
-fn step(v: State, f: u32, k: u32, w: u32) -> State
+fn step(v: HashValue, f: u32, k: u32, w: u32) -> HashValue
     ensures { λ r. ⌜ r ≡ Sha1.roundWith f k w v ⌝ }
 {
-    State {
+    HashValue {
         a: sum(rotl5(v.a), f, v.e, k, w),
         b: v.a,
         c: rotl30(v.b),
@@ -21,7 +21,7 @@ fn step(v: State, f: u32, k: u32, w: u32) -> State
     }
 }
 
-pub(crate) fn rounds_0_19(h: State, w: &[u32; 80]) -> State
+pub(crate) fn rounds_0_19(h: HashValue, w: &[u32; 80]) -> HashValue
     ensures { λ r. ⌜ r ≡ Sha1.rounds (now (w .entry)) 0 20 h ⌝ }
 {
     let mut v = h;
@@ -33,7 +33,7 @@ pub(crate) fn rounds_0_19(h: State, w: &[u32; 80]) -> State
     v
 }
 
-pub(crate) fn rounds_20_39(h: State, w: &[u32; 80]) -> State
+pub(crate) fn rounds_20_39(h: HashValue, w: &[u32; 80]) -> HashValue
     ensures { λ r. ⌜ r ≡ Sha1.rounds (now (w .entry)) 20 20 h ⌝ }
 {
     let mut v = h;
@@ -45,7 +45,7 @@ pub(crate) fn rounds_20_39(h: State, w: &[u32; 80]) -> State
     v
 }
 
-pub(crate) fn rounds_40_59(h: State, w: &[u32; 80]) -> State
+pub(crate) fn rounds_40_59(h: HashValue, w: &[u32; 80]) -> HashValue
     ensures { λ r. ⌜ r ≡ Sha1.rounds (now (w .entry)) 40 20 h ⌝ }
 {
     let mut v = h;
@@ -57,7 +57,7 @@ pub(crate) fn rounds_40_59(h: State, w: &[u32; 80]) -> State
     v
 }
 
-pub(crate) fn rounds_60_79(h: State, w: &[u32; 80]) -> State
+pub(crate) fn rounds_60_79(h: HashValue, w: &[u32; 80]) -> HashValue
     ensures { λ r. ⌜ r ≡ Sha1.rounds (now (w .entry)) 60 20 h ⌝ }
 {
     let mut v = h;

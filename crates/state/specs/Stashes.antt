@@ -1,14 +1,15 @@
 -- Document 01, "The stash area" and "Calls": the stashes that are held, oldest first, each with its hash and its number of blocks.
--- The state keeps them in a flat array of hash bytes and one of sizes, beside a count.
 -- Assumes nothing: these are definitions.
-use Prim.Native.Nat.{ℕ, zero, suc, _+_, _-_, _*_, min}
+use Prim.Native.Nat.{ℕ, zero, suc, _+_, _-_, _*_, _≤_, min}
+use mathlib.Core.Path.{_≡_}
 use mathlib.Core.Bool.{Bool, true, false}
-use mathlib.Core.List.{List, [], _∷_, _++_}
-use lib.ListN.{length, take, drop, getD, set}
+use mathlib.Core.List.{List, [], _∷_}
+use lib.ListN.{length, take, drop, getD, set, replicate}
 use lib.Seq.{paste}
 use lib.Dec.{eqb, ltb, leb}
 use Rattle.text.specs.Choice.{pick, both, either}
-use Rattle.state.specs.Limits.{mostStashes}
+use Rattle.text.specs.Hash.{hashBytes}
+use Rattle.state.specs.Limits.{mostStashes, tableBytes}
 use Rattle.state.specs.declared.stashes.Found.{Found}
 use Rattle.state.specs.declared.stashes.Found.the-variants.{At, Nothing}
 use Rattle.state.specs.declared.State.{State}
@@ -17,18 +18,49 @@ pub record Stash : Type 0 where
   pub hash : List ℕ
   pub blocks : ℕ
 
+-- the table of stashes as a state keeps it: a flat array of hash bytes, one of sizes, and how many entries are in use
+pub record Table : Type 0 where
+  pub hashes : List ℕ
+  pub sizes : List ℕ
+  pub count : ℕ
+
+abbrev pub tableAt : List ℕ → List ℕ → ℕ → Table
+tableAt hashes sizes count = record { hashes = hashes; sizes = sizes; count = count }
+
+-- a state's own
+abbrev pub tableOf : State → Table
+tableOf s = tableAt (s .hashes) (s .sizes) (s .count)
+
+-- the table that a run starts with
+abbrev pub emptyTable : Table
+emptyTable = tableAt (replicate tableBytes 0) (replicate mostStashes 0) 0
+
+-- the hash of entry k
+abbrev pub entryHash : List ℕ → ℕ → List ℕ
+entryHash hashes k = take hashBytes (drop (hashBytes * k) hashes)
+
+-- both arrays have room for the most stashes, and the count is in them
+pub record Whole (t : Table) : Type 0 where
+  pub hashes : length (t .hashes) ≡ tableBytes
+  pub sizes : length (t .sizes) ≡ mostStashes
+  pub count : t .count ≤ mostStashes
+
 -- entry k of the two arrays
 abbrev pub entryAt : List ℕ → List ℕ → ℕ → Stash
-entryAt hashes sizes k = record { hash = take 20 (drop (20 * k) hashes); blocks = getD sizes k 0 }
+entryAt hashes sizes k = record { hash = entryHash hashes k; blocks = getD sizes k 0 }
 
 -- n entries from k on
 unfoldable pub entries : List ℕ → List ℕ → ℕ → ℕ → List Stash
 entries hashes sizes k zero = []
 entries hashes sizes k (suc n) = entryAt hashes sizes k ∷ entries hashes sizes (k + 1) n
 
--- the stashes that a state holds; a count past the arrays counts as all of them
-unfoldable pub held : State → List Stash
-held s = entries (s .hashes) (s .sizes) 0 (min (s .count) mostStashes)
+-- the stashes of a table, oldest first; a count past the arrays counts as all of them
+unfoldable pub heldIn : Table → List Stash
+heldIn t = entries (t .hashes) (t .sizes) 0 (min (t .count) mostStashes)
+
+-- the stashes that a state holds
+abbrev pub held : State → List Stash
+held s = heldIn (tableOf s)
 
 -- two hashes are the same
 unfoldable pub same : List ℕ → List ℕ → Bool
@@ -37,6 +69,7 @@ same [] (y ∷ ys) = false
 same (x ∷ xs) [] = false
 same (x ∷ xs) (y ∷ ys) = both (eqb x y) (same xs ys)
 
+-- found one entry further on
 abbrev pub shift : Found → Found
 shift (At j) = At (j + 1)
 shift Nothing = Nothing
@@ -73,34 +106,19 @@ without [] j = []
 without (x ∷ xs) zero = xs
 without (x ∷ xs) (suc j) = x ∷ without xs j
 
--- a state that holds one stash more, where there is room for it
-unfoldable pub holding : State → List ℕ → ℕ → State
-holding s hash blocks =
-    pick (ltb (s .count) mostStashes)
-    (record {
-      hashes = paste (s .hashes) (20 * s .count) hash 20;
-      sizes = set (s .sizes) (s .count) blocks;
-      count = s .count + 1;
-      line = s .line;
-      at = s .at;
-      into = s .into;
-      refusal = s .refusal;
-      lengths = s .lengths;
-    })
-    s
+-- one stash more, where there is room for it
+unfoldable pub holding : Table → List ℕ → ℕ → Table
+holding t hash blocks =
+    pick (ltb (t .count) mostStashes)
+    (tableAt (paste (t .hashes) (hashBytes * t .count) hash hashBytes) (set (t .sizes) (t .count) blocks) (t .count + 1))
+    t
 
--- a state without the stash at j, the younger ones moved down
-unfoldable pub releasing : State → ℕ → State
-releasing s j =
-    pick (both (ltb j (s .count)) (leb (s .count) mostStashes))
-    (record {
-      hashes = paste (s .hashes) (20 * j) (drop (20 * (j + 1)) (s .hashes)) (20 * (s .count - (j + 1)));
-      sizes = paste (s .sizes) j (drop (j + 1) (s .sizes)) (s .count - (j + 1));
-      count = s .count - 1;
-      line = s .line;
-      at = s .at;
-      into = s .into;
-      refusal = s .refusal;
-      lengths = s .lengths;
-    })
-    s
+-- without the stash at j, the younger ones moved down; as it was where there is no such stash or the count is past the arrays
+unfoldable pub releasing : Table → ℕ → Table
+releasing t j =
+    pick (both (ltb j (t .count)) (leb (t .count) mostStashes))
+    (tableAt
+    (paste (t .hashes) (hashBytes * j) (drop (hashBytes * (j + 1)) (t .hashes)) (hashBytes * (t .count - (j + 1))))
+    (paste (t .sizes) j (drop (j + 1) (t .sizes)) (t .count - (j + 1)))
+    (t .count - 1))
+    t

@@ -23,8 +23,8 @@ pub struct Lengths {
     pub work: usize,
 }
 
-// The stashes held, oldest first, 20 hash bytes and a number of blocks each, and how many they are. The current line's number and where
-// it starts in the text. The bytes into a `new`. The refusal, if any. The lengths at opening.
+// The stashes held, oldest first, a hash and a number of blocks each, and how many they are. The current line's number and where it
+// starts in the text. The bytes into a `new`. The refusal, if any. The lengths at opening.
 #[repr(C)]
 pub struct State {
     pub hashes: [u8; TABLE_BYTES],

@@ -1,13 +1,15 @@
-// The stashes that a state holds.
+// The table of stashes: a flat array of hash bytes, one of sizes, and how many entries are in use. It is read and changed where it lies.
 ghost use mathlib.Core.Path.{_≡_};
 ghost use mathlib.Core.List.{List};
 ghost use Prim.Native.Nat.{ℕ, _+_, _-_, _*_, _≤_, _<_, min};
 ghost use lib.ListN.{length, take, drop};
 ghost use lib.Seq.{paste};
-ghost use Rattle.state.specs.Limits.{mostStashes, tableBytes};
-ghost use Rattle.state.specs.Stashes.{entries, held, same, findIn, isHeld, heldTwice, sizeAt, blocksHeld, holding, releasing};
+ghost use Rattle.text.specs.Hash.{hashBytes};
+ghost use Rattle.state.specs.Limits.{mostStashes};
+ghost use Rattle.state.specs.Stashes.{tableAt, entryHash, entries, heldIn, same, findIn, isHeld, heldTwice, sizeAt, blocksHeld};
+ghost use Rattle.state.specs.Stashes.{holding, releasing};
 ghost use Rattle.state.specs.Sums.{bounded};
-use crate::State;
+use crate::limits::HASH_BYTES;
 use crate::limits::MOST_STASHES;
 use crate::limits::TABLE_BYTES;
 use crate::sums::bounded_sum;
@@ -18,15 +20,15 @@ pub enum Found {
     Nothing,
 }
 
-// Entry j of the hashes is the given hash.
-fn same_at(hashes: &[u8], j: usize, hash: &[u8]) -> bool
-    requires { ⌜ (20 * j + 20 ≤ length (now hashes)) × (length (now hash) ≡ 20) ⌝ }
-    ensures { λ r. ⌜ r ≡ same (take 20 (drop (20 * j) (now (hashes .entry)))) (now (hash .entry)) ⌝ }
+pub fn same_hash(a: &[u8], b: &[u8]) -> bool
+    ensures { λ r. ⌜ r ≡ same (now (a .entry)) (now (b .entry)) ⌝ }
 {
-    let at = 20 * j;
+    if a.len() != b.len() {
+        return false;
+    }
     let mut i = 0;
-    while i < 20 {
-        if hashes[at + i] != hash[i] {
+    while i < a.len() {
+        if a[i] != b[i] {
             return false;
         }
         i += 1;
@@ -38,20 +40,23 @@ fn same_at(hashes: &[u8], j: usize, hash: &[u8]) -> bool
 pub fn held_count(count: usize) -> usize
     ensures { λ r. ⌜ r ≡ min count mostStashes ⌝ }
 {
-    if MOST_STASHES < count {
-        MOST_STASHES
-    } else {
+    if count <= MOST_STASHES {
         count
+    } else {
+        MOST_STASHES
     }
 }
 
-pub fn find_stash(s: State, hash: [u8; 20]) -> Found
-    ensures { λ r. ⌜ r ≡ findIn (held s) hash ⌝ }
+pub fn find_stash(hashes: &[u8; TABLE_BYTES], count: usize, hash: [u8; HASH_BYTES]) -> Found
+    ensures { λ r. ⌜ ((sizes : List ℕ) → r ≡ findIn (heldIn (tableAt (now (hashes .entry)) sizes count)) hash) ⌝ }
 {
-    let n = held_count(s.count);
+    let table = &hashes[..];
+    let n = held_count(count);
     let mut j = 0;
     while j < n {
-        if same_at(&s.hashes, j, &hash) {
+        let from = HASH_BYTES * j;
+        let to = from + HASH_BYTES;
+        if same_hash(&table[from..to], &hash) {
             return Found::At(j);
         }
         j += 1;
@@ -60,27 +65,27 @@ pub fn find_stash(s: State, hash: [u8; 20]) -> Found
 }
 
 // The blocks of stash j, none where there is no such stash.
-pub fn stash_blocks(s: State, j: usize) -> usize
-    ensures { λ r. ⌜ r ≡ sizeAt (held s) j ⌝ }
+pub fn stash_blocks(sizes: &[usize; MOST_STASHES], count: usize, j: usize) -> usize
+    ensures { λ r. ⌜ ((hashes : List ℕ) → r ≡ sizeAt (heldIn (tableAt hashes (now (sizes .entry)) count)) j) ⌝ }
 {
-    if held_count(s.count) <= j {
+    if held_count(count) <= j {
         return 0;
     }
-    s.sizes[j]
+    sizes[j]
 }
 
 // The blocks of the first n stashes, up to the bound.
-pub fn blocks_before(s: State, n: usize) -> usize
-    ensures { λ r. ⌜ r ≡ bounded (blocksHeld (take n (held s))) ⌝ }
+pub fn blocks_before(sizes: &[usize; MOST_STASHES], count: usize, n: usize) -> usize
+    ensures { λ r. ⌜ ((hashes : List ℕ) → r ≡ bounded (blocksHeld (take n (heldIn (tableAt hashes (now (sizes .entry)) count))))) ⌝ }
 {
-    let most = held_count(s.count);
+    let most = held_count(count);
     let mut sum: usize = 0;
     let mut j = 0;
     while j < n {
         if j == most {
             return sum;
         }
-        sum = bounded_sum(sum, s.sizes[j]);
+        sum = bounded_sum(sum, sizes[j]);
         j += 1;
     }
     sum
@@ -88,16 +93,18 @@ pub fn blocks_before(s: State, n: usize) -> usize
 
 // The hash of entry j is also that of a later one, of n entries.
 fn again_after(hashes: &[u8], j: usize, n: usize) -> bool
-    requires { ⌜ (j < n) × (20 * n ≤ length (now hashes)) ⌝ }
+    requires { ⌜ (j < n) × (hashBytes * n ≤ length (now hashes)) ⌝ }
     ensures { λ r. ⌜ ((sizes : List ℕ) →
-        r ≡ isHeld (entries (now (hashes .entry)) sizes (j + 1) (n - (j + 1))) (take 20 (drop (20 * j) (now (hashes .entry))))) ⌝ }
+        r ≡ isHeld (entries (now (hashes .entry)) sizes (j + 1) (n - (j + 1))) (entryHash (now (hashes .entry)) j)) ⌝ }
 {
-    let from = 20 * j;
-    let to = from + 20;
-    let hash = &hashes[from..to];
+    let start = HASH_BYTES * j;
+    let end = start + HASH_BYTES;
+    let hash = &hashes[start..end];
     let mut k = j + 1;
     while k < n {
-        if same_at(hashes, k, hash) {
+        let from = HASH_BYTES * k;
+        let to = from + HASH_BYTES;
+        if same_hash(&hashes[from..to], hash) {
             return true;
         }
         k += 1;
@@ -106,13 +113,13 @@ fn again_after(hashes: &[u8], j: usize, n: usize) -> bool
 }
 
 // Some hash is held twice.
-pub fn holds_twice(s: State) -> bool
-    ensures { λ r. ⌜ r ≡ heldTwice (held s) ⌝ }
+pub fn holds_twice(hashes: &[u8; TABLE_BYTES], count: usize) -> bool
+    ensures { λ r. ⌜ ((sizes : List ℕ) → r ≡ heldTwice (heldIn (tableAt (now (hashes .entry)) sizes count))) ⌝ }
 {
-    let n = held_count(s.count);
+    let n = held_count(count);
     let mut j = 0;
     while j < n {
-        if again_after(&s.hashes, j, n) {
+        if again_after(hashes, j, n) {
             return true;
         }
         j += 1;
@@ -120,28 +127,38 @@ pub fn holds_twice(s: State) -> bool
     false
 }
 
-// One stash more, where there is room for it.
-pub fn hold(s: State, hash: [u8; 20], blocks: usize) -> State
-    ensures { λ r. ⌜ r ≡ holding s hash blocks ⌝ }
+fn put_hash(a: &mut [u8], at: usize, hash: [u8; HASH_BYTES])
+    requires { ⌜ at + hashBytes ≤ length (now a) ⌝ }
+    ensures { λ _. ⌜ now (a .exit) ≡ paste (now (a .entry)) at hash hashBytes ⌝ }
 {
-    let k = s.count;
-    if MOST_STASHES <= k {
-        return s;
-    }
-    let mut next = s;
-    let at = 20 * k;
     let mut i = 0;
-    while i < 20 {
-        next.hashes[at + i] = hash[i];
+    while i < HASH_BYTES {
+        a[at + i] = hash[i];
         i += 1;
     }
-    next.sizes[k] = blocks;
-    next.count = k + 1;
-    next
 }
 
-fn down_bytes(a: &mut [u8; TABLE_BYTES], to: usize, from: usize, n: usize)
-    requires { ⌜ (to ≤ from) × (from + n ≤ tableBytes) × (length (now a) ≡ tableBytes) ⌝ }
+// One stash more, where there is room for it. Gives how many there are then.
+pub fn hold(
+    hashes: &mut [u8; TABLE_BYTES],
+    sizes: &mut [usize; MOST_STASHES],
+    count: usize,
+    hash: [u8; HASH_BYTES],
+    blocks: usize,
+) -> usize
+    ensures { λ r. ⌜ tableAt (now (hashes .exit)) (now (sizes .exit)) r
+        ≡ holding (tableAt (now (hashes .entry)) (now (sizes .entry)) count) hash blocks ⌝ }
+{
+    if MOST_STASHES <= count {
+        return count;
+    }
+    put_hash(hashes, HASH_BYTES * count, hash);
+    sizes[count] = blocks;
+    count + 1
+}
+
+fn down_bytes(a: &mut [u8], to: usize, from: usize, n: usize)
+    requires { ⌜ (to ≤ from) × (from + n ≤ length (now a)) ⌝ }
     ensures { λ _. ⌜ now (a .exit) ≡ paste (now (a .entry)) to (drop from (now (a .entry))) n ⌝ }
 {
     let mut i = 0;
@@ -151,8 +168,8 @@ fn down_bytes(a: &mut [u8; TABLE_BYTES], to: usize, from: usize, n: usize)
     }
 }
 
-fn down_words(a: &mut [usize; MOST_STASHES], to: usize, from: usize, n: usize)
-    requires { ⌜ (to ≤ from) × (from + n ≤ mostStashes) × (length (now a) ≡ mostStashes) ⌝ }
+fn down_words(a: &mut [usize], to: usize, from: usize, n: usize)
+    requires { ⌜ (to ≤ from) × (from + n ≤ length (now a)) ⌝ }
     ensures { λ _. ⌜ now (a .exit) ≡ paste (now (a .entry)) to (drop from (now (a .entry))) n ⌝ }
 {
     let mut i = 0;
@@ -162,21 +179,29 @@ fn down_words(a: &mut [usize; MOST_STASHES], to: usize, from: usize, n: usize)
     }
 }
 
-// The stash at j goes, and the younger ones move down.
-pub fn release(s: State, j: usize) -> State
-    ensures { λ r. ⌜ r ≡ releasing s j ⌝ }
+// The stash at j goes, and the younger ones move down. Gives how many are left.
+pub fn release(
+    hashes: &mut [u8; TABLE_BYTES],
+    sizes: &mut [usize; MOST_STASHES],
+    count: usize,
+    j: usize,
+) -> usize
+    ensures { λ r. ⌜ tableAt (now (hashes .exit)) (now (sizes .exit)) r
+        ≡ releasing (tableAt (now (hashes .entry)) (now (sizes .entry)) count) j ⌝ }
 {
-    let n = s.count;
-    if n <= j {
-        return s;
+    if count <= j {
+        return count;
     }
-    if MOST_STASHES < n {
-        return s;
+    if MOST_STASHES < count {
+        return count;
     }
-    let mut next = s;
-    let left = n - (j + 1);
-    down_bytes(&mut next.hashes, 20 * j, 20 * (j + 1), 20 * left);
-    down_words(&mut next.sizes, j, j + 1, left);
-    next.count = n - 1;
-    next
+    let left = count - (j + 1);
+    down_bytes(
+        hashes,
+        HASH_BYTES * j,
+        HASH_BYTES * (j + 1),
+        HASH_BYTES * left,
+    );
+    down_words(sizes, j, j + 1, left);
+    count - 1
 }

@@ -1,36 +1,39 @@
 // Hashes: 40 hexadecimal digits in lower case.
 ghost use mathlib.Core.Path.{_≡_};
 ghost use Rattle.text.specs.Hash.{digitOf, digitAt, octetAt, hashAt};
-use crate::mark::Mark;
+use crate::expected::Expected;
 
-pub enum Digit {
+// How many bytes a hash has.
+pub const HASH_BYTES: usize = 20;
+
+enum Digit {
     Value(u8),
     Other,
 }
 
 // A byte of two digits, or the position of the fault.
-pub enum Octet {
+enum Octet {
     Good(u8),
     Bad(usize),
 }
 
 // The bytes, zero where the reading failed, beside how it went.
 pub struct Hash {
-    pub read: Mark,
-    pub bytes: [u8; 20],
+    pub read: Expected,
+    pub bytes: [u8; HASH_BYTES],
 }
 
-pub fn hex_digit(b: u8) -> Digit
+fn hex_digit(b: u8) -> Digit
     ensures { λ r. ⌜ r ≡ digitOf b ⌝ }
 {
     match b {
         b'0'..=b'9' => Digit::Value(b - b'0'),
-        b'a'..=b'f' => Digit::Value(b - 87),
+        b'a'..=b'f' => Digit::Value(b - b'a' + 10),
         _ => Digit::Other,
     }
 }
 
-pub fn digit_at(s: &[u8], i: usize) -> Digit
+fn digit_at(s: &[u8], i: usize) -> Digit
     ensures { λ r. ⌜ r ≡ digitAt (now (s .entry)) i ⌝ }
 {
     if i < s.len() {
@@ -40,7 +43,7 @@ pub fn digit_at(s: &[u8], i: usize) -> Digit
     }
 }
 
-pub fn octet_at(s: &[u8], i: usize) -> Octet
+fn octet_at(s: &[u8], i: usize) -> Octet
     ensures { λ r. ⌜ r ≡ octetAt (now (s .entry)) i ⌝ }
 {
     match digit_at(s, i) {
@@ -52,18 +55,19 @@ pub fn octet_at(s: &[u8], i: usize) -> Octet
     }
 }
 
+// Two digits are a byte, the higher first.
 pub fn read_hash(s: &[u8], at: usize) -> Hash
     ensures { λ r. ⌜ r ≡ hashAt (now (s .entry)) at ⌝ }
 {
-    let mut bytes = [0u8; 20];
+    let mut bytes = [0u8; HASH_BYTES];
     let mut i = at;
     let mut k = 0;
-    while k < 20 {
+    while k < HASH_BYTES {
         match octet_at(s, i) {
             Octet::Bad(p) => {
                 return Hash {
-                    read: Mark::Bad(p),
-                    bytes: [0u8; 20],
+                    read: Expected::Bad(p),
+                    bytes: [0u8; HASH_BYTES],
                 };
             }
             Octet::Good(v) => {
@@ -74,7 +78,7 @@ pub fn read_hash(s: &[u8], at: usize) -> Hash
         }
     }
     Hash {
-        read: Mark::Past(i),
+        read: Expected::Past(i),
         bytes,
     }
 }

@@ -8,6 +8,8 @@ pub enum Number {
     Bad(usize),
 }
 
+const LARGEST: u64 = 4294967295;
+
 pub fn read_number(s: &[u8], at: usize) -> Number
     ensures { λ r. ⌜ r ≡ numberAt (now (s .entry)) at ⌝ }
 {
@@ -35,7 +37,7 @@ pub fn read_number(s: &[u8], at: usize) -> Number
             return Number::Bad(i);
         }
         let w = v * 10 + (b - b'0') as u64;
-        if 4294967295 < w {
+        if LARGEST < w {
             return Number::Bad(i);
         }
         v = w;

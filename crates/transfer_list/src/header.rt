@@ -12,16 +12,22 @@ use state::refusals::AREA_SIZE;
 use state::refusals::HEADER_FORM;
 use state::refusals::HEADER_LIMIT;
 use state::refusals::LIST_LENGTH;
-use state::refusals::VERSION;
-use text::mark::Mark;
-use text::mark::read_mark;
+use state::refusals::OTHER_VERSION;
+use text::expected::Expected;
+use text::expected::read_expected;
 use text::number::Number;
 use text::number::read_number;
+
+// The version that opens.
+const VERSION_3: u32 = 3;
+
+// The number of the first command line.
+pub(crate) const FIRST_LINE: usize = 5;
 
 // The version, the blocks of new data, the most stashes and the most blocks held at once, and where the command lines start.
 pub struct Header {
     pub version: u32,
-    pub fresh: u32,
+    pub total: u32,
     pub stashes: u32,
     pub blocks: u32,
     pub first: usize,
@@ -39,9 +45,9 @@ fn read_header_line(s: &[u8], at: usize) -> Number
 {
     match read_number(s, at) {
         Number::Bad(p) => Number::Bad(p),
-        Number::Good(v, i) => match read_mark(s, i, b'\n') {
-            Mark::Bad(p) => Number::Bad(p),
-            Mark::Past(next) => Number::Good(v, next),
+        Number::Good(v, i) => match read_expected(s, i, b'\n') {
+            Expected::Bad(p) => Number::Bad(p),
+            Expected::Past(next) => Number::Good(v, next),
         },
     }
 }
@@ -52,7 +58,7 @@ pub fn read_header(s: &[u8]) -> HeaderRead
     let Number::Good(version, i) = read_header_line(s, 0) else {
         return HeaderRead::Bad(1);
     };
-    let Number::Good(fresh, j) = read_header_line(s, i) else {
+    let Number::Good(total, j) = read_header_line(s, i) else {
         return HeaderRead::Bad(2);
     };
     let Number::Good(stashes, k) = read_header_line(s, j) else {
@@ -63,7 +69,7 @@ pub fn read_header(s: &[u8]) -> HeaderRead
     };
     HeaderRead::Good(Header {
         version,
-        fresh,
+        total,
         stashes,
         blocks,
         first,
@@ -101,9 +107,9 @@ fn check_header(lengths: Lengths, read: HeaderRead) -> Refusal
             line,
         },
         HeaderRead::Good(h) => {
-            if h.version != 3 {
+            if h.version != VERSION_3 {
                 return Refusal {
-                    number: VERSION,
+                    number: OTHER_VERSION,
                     line: 1,
                 };
             }

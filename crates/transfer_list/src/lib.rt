@@ -4,37 +4,35 @@ ghost use mathlib.Core.List.{[]};
 ghost use Prim.Native.Nat.{suc, _≤_};
 ghost use lib.ListN.{length};
 ghost use Rattle.state.specs.Limits.{mostListBytes, mostStashes};
-ghost use Rattle.state.specs.Stashes.{held};
-ghost use Rattle.transfer_list.specs.Opening.{limitsOf, countedBlocks, heldAfter, firstLine, linesRefusal, openRefusal, lengthsOf, openState, stateAt};
+ghost use Rattle.state.specs.States.{stateAt};
+ghost use Rattle.transfer_list.specs.Header.{firstLine};
+ghost use Rattle.transfer_list.specs.Opening.{termsOf, countedBlocks, linesRefusal, openRefusal, lengthsOf, openState};
+use crate::header::FIRST_LINE;
 use crate::header::Header;
 use crate::header::HeaderRead;
 use crate::header::check_start;
 use crate::header::read_header;
 use command::Command;
-use command::Line;
-use rules::Limits;
+use rules::Terms;
 use rules::check_line;
+use rules::held::hold_after;
 use state::Lengths;
 use state::Refusal;
 use state::State;
 use state::limits::BLOCK_BYTES;
 use state::limits::MOST_STASHES;
 use state::limits::TABLE_BYTES;
-use state::refusals::NEW_TOTAL;
-use state::stashes::Found;
-use state::stashes::find_stash;
-use state::stashes::hold;
-use state::stashes::release;
+use state::refusals::TOTAL_DIFFERS;
 use state::sums::bounded_sum;
 use text::line::line_at;
 
 pub mod header;
 
 // What a line is checked against.
-pub fn limits_of(lengths: Lengths, h: Header) -> Limits
-    ensures { λ r. ⌜ r ≡ limitsOf lengths h ⌝ }
+pub fn terms_of(lengths: Lengths, h: Header) -> Terms
+    ensures { λ r. ⌜ r ≡ termsOf lengths h ⌝ }
 {
-    Limits {
+    Terms {
         image: lengths.image / BLOCK_BYTES,
         work: lengths.work / BLOCK_BYTES,
         stashes: h.stashes,
@@ -49,6 +47,7 @@ fn counted_blocks(command: Command) -> usize
     match command {
         Command::New(set) => set.blocks,
         Command::Zero(_) => 0,
+        Command::Erase(_) => 0,
         Command::Move {
             target: _,
             length: _,
@@ -56,7 +55,7 @@ fn counted_blocks(command: Command) -> usize
         } => 0,
         Command::Stash(_) => 0,
         Command::Free => 0,
-        Command::Patch => 0,
+        Command::Unsupported => 0,
         Command::Bad(_) => 0,
     }
 }
@@ -77,50 +76,20 @@ fn state_at(line: usize, at: usize, refusal: Refusal, lengths: Lengths) -> State
     }
 }
 
-// The state with what is held after a command, for which there is room.
-fn hold_after(s: State, line: Line) -> State
-    requires { ⌜ (s .count ≤ mostStashes) × (length (heldAfter (held s) (line .hash) (line .command)) ≤ mostStashes) ⌝ }
-    ensures { λ r. ⌜ (r .count ≤ mostStashes) × (held r ≡ heldAfter (held s) (line .hash) (line .command)) ⌝ }
-{
-    let command = line.command;
-    let hash = line.hash;
-    match command {
-        Command::Stash(set) => hold(s, hash, set.blocks),
-        Command::Free => match find_stash(s, hash) {
-            Found::At(j) => release(s, j),
-            Found::Nothing => s,
-        },
-        Command::Zero(_) => s,
-        Command::New(_) => s,
-        Command::Move {
-            target: _,
-            length: _,
-            source: _,
-        } => s,
-        Command::Patch => s,
-        Command::Bad(_) => s,
-    }
-}
-
 // The command lines, top to bottom.
-fn check_lines(list: &[u8], limits: Limits, h: Header) -> Refusal
-    requires { ⌜ (length (now list) ≤ mostListBytes) × (limits .stashes ≤ mostStashes) ⌝ }
-    ensures { λ r. ⌜ r ≡ linesRefusal (suc (length (now (list .entry)))) (now (list .entry)) limits h firstLine (h .first) [] 0 ⌝ }
+fn check_lines(list: &[u8], terms: Terms, h: Header) -> Refusal
+    requires { ⌜ (length (now list) ≤ mostListBytes) × (terms .stashes ≤ mostStashes) ⌝ }
+    ensures { λ r. ⌜ r ≡ linesRefusal (suc (length (now (list .entry)))) (now (list .entry)) terms h firstLine (h .first) [] 0 ⌝ }
 {
-    let nothing = Refusal { number: 0, line: 0 };
-    let lengths = Lengths {
-        list: 0,
-        image: 0,
-        stash: 0,
-        work: 0,
-    };
-    let mut s = state_at(0, 0, nothing, lengths);
-    let mut line: usize = 5;
+    let mut hashes = [0u8; TABLE_BYTES];
+    let mut sizes = [0usize; MOST_STASHES];
+    let mut count: usize = 0;
+    let mut line: usize = FIRST_LINE;
     let mut at = h.first;
-    let mut fresh: usize = 0;
+    let mut counted: usize = 0;
     while at < list.len() {
         let l = line_at(list, at);
-        let checked = check_line(l, limits, s);
+        let checked = check_line(l, terms, &hashes, &sizes, count);
         if checked.refusal != 0 {
             return Refusal {
                 number: checked.refusal,
@@ -129,14 +98,14 @@ fn check_lines(list: &[u8], limits: Limits, h: Header) -> Refusal
         }
         let read = checked.line;
         let command = read.command;
-        s = hold_after(s, read);
-        fresh = bounded_sum(fresh, counted_blocks(command));
+        count = hold_after(&mut hashes, &mut sizes, count, read);
+        counted = bounded_sum(counted, counted_blocks(command));
         at = at + l.len();
         line = line + 1;
     }
-    if fresh != h.fresh as usize {
+    if counted != h.total as usize {
         return Refusal {
-            number: NEW_TOTAL,
+            number: TOTAL_DIFFERS,
             line: 2,
         };
     }
@@ -153,7 +122,7 @@ fn check_list(list: &[u8], lengths: Lengths) -> Refusal
     }
     match read_header(list) {
         HeaderRead::Bad(_) => Refusal { number: 0, line: 0 },
-        HeaderRead::Good(h) => check_lines(list, limits_of(lengths, h), h),
+        HeaderRead::Good(h) => check_lines(list, terms_of(lengths, h), h),
     }
 }
 
@@ -179,7 +148,7 @@ pub fn open(list: &[u8], image: usize, stash: usize, work: usize) -> State
     }
     let nothing = Refusal { number: 0, line: 0 };
     match read_header(list) {
-        HeaderRead::Bad(_) => state_at(5, 0, nothing, lengths),
-        HeaderRead::Good(h) => state_at(5, h.first, nothing, lengths),
+        HeaderRead::Bad(_) => state_at(FIRST_LINE, 0, nothing, lengths),
+        HeaderRead::Good(h) => state_at(FIRST_LINE, h.first, nothing, lengths),
     }
 }

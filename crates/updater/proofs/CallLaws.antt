@@ -1,6 +1,6 @@
 -- One call, case by case: a refusal that is held, a state that is not possible, and a run, for which a possible state is ready.
 -- Assumes nothing.
-use mathlib.Core.Path.{_≡_, refl}
+use mathlib.Core.Path.{_≡_, refl, ap}
 use mathlib.Core.Bool.{true, false}
 use mathlib.Core.List.{List}
 use Prim.Native.Nat.{ℕ, _+_, _-_, _≤_}
@@ -10,29 +10,32 @@ use lib.Dec.{leb, eqb}
 use lib.ListN.{length, getD, take, length-take}
 use Rattle.text.specs.Choice.{no}
 use Rattle.text.specs.Line.{lineNumber}
-use Rattle.text.specs.Mark.{lf}
+use Rattle.text.specs.Expected.{lf}
 use Rattle.text.proofs.LineLaws.{lfs-most}
-use Rattle.state.specs.Limits.{mostStashes}
+use Rattle.state.specs.Limits.{mostStashes, tableBytes}
 use Rattle.state.specs.Refusals.{none, stateImpossible}
-use Rattle.state.specs.Stashes.{held, heldTwice, blocksHeld}
+use Rattle.state.specs.Stashes.{tableOf, held, heldTwice, blocksHeld}
+use Rattle.state.specs.States.{refusing}
 use Rattle.state.specs.declared.Lengths.{Lengths}
 use Rattle.state.specs.declared.State.{State}
-use Rattle.rules.specs.declared.Limits.{Limits}
+use Rattle.rules.specs.declared.Terms.{Terms}
 use Rattle.transfer_list.specs.Header.{headerOf, startRefusal}
-use Rattle.transfer_list.specs.Opening.{limitsOf}
+use Rattle.transfer_list.specs.Opening.{termsOf}
 use Rattle.transfer_list.specs.declared.header.Header.{Header}
 use Rattle.transfer_list.specs.declared.header.HeaderRead.the-variants.{Good}
 use Rattle.transfer_list.proofs.HeaderLaws.{start-none}
-use Rattle.updater.specs.Machine.{feeds}
-use Rattle.updater.specs.Steps.{Place}
-use Rattle.updater.specs.Run.{machine, ranOf}
+use Rattle.machine.specs.Machine.{counts}
+use Rattle.machine.proofs.MachineLaws.{Sound, counts-most}
+use Rattle.updater.specs.Areas.{Areas}
+use Rattle.updater.specs.Steps.{Config, configOf}
+use Rattle.updater.specs.Run.{machine, Reached, reached, runOf}
 use Rattle.updater.specs.Fits.{Fits}
-use Rattle.updater.specs.Calls.{sameLengths, atLine, canHold, possibleUnder, isPossible, limitsUnder, limitsFor}
-use Rattle.updater.specs.Calls.{outcomeOf, lengthsAt, isRun, leaves, takes, says, calledOf}
-use Rattle.updater.specs.declared.run.Ran.{Ran}
+use Rattle.possible.specs.Possible.{sameLengths, atLine, canHold, possibleUnder, isPossible, termsUnder, termsFor}
+use Rattle.updater.specs.Calls.{outcomeAt, outcomeOf, lengthsAt, isRun, leaves, takes, says, Result, resultOf, callOf}
+use Rattle.updater.specs.declared.Called.{Called}
 use Rattle.updater.specs.declared.Outcome.{Outcome}
 use Rattle.updater.specs.declared.Outcome.the-variants.{Refused}
-use Rattle.updater.proofs.RunningLaws.{both-true}
+use Rattle.text.proofs.ChoiceLaws.{picks, both-true}
 
 -- ---- a possible state is ready to run
 
@@ -51,11 +54,11 @@ record Tested (s : List ℕ) (h : Header) (state : State) : Type 0 where
 tested : (s : List ℕ) (lengths : Lengths) (h : Header) (state : State) → possibleUnder s lengths (Good h) state ≡ true → Tested s h state
 unfolding possibleUnder atLine canHold
 tested s lengths h state e =
-    let a = both-true (atLine s h state) _ e in
+    let a = both-true (atLine s h (state .line) (state .at)) _ e in
     let first = both-true (leb (h .first) (state .at)) _ (a .0) in
     let within = both-true (leb (state .at) (length s)) _ (first .1) in
     let ended = both-true (eqb (getD s (state .at - 1) 0) lf) _ (within .1) in
-    let holds = both-true (canHold h state) _ (a .1) in
+    let holds = both-true (canHold h (tableOf state)) _ (a .1) in
     let few = both-true (leb (state .count) mostStashes) _ (holds .0) in
     let once = both-true (no (heldTwice (held state))) _ (few .1) in
     let line = eqb-true (state .line) (lineNumber s (state .at)) (ended .1) in
@@ -66,21 +69,21 @@ tested s lengths h state e =
       blocks = leb-true (blocksHeld (held state)) (h .blocks) (once .1);
     }
 
-limits-read : (s : List ℕ) (lengths : Lengths) {h : Header} → headerOf s ≡ Good h → limitsFor s lengths ≡ limitsOf lengths h
-unfolding limitsFor limitsUnder
-limits-read s lengths e = rw e
+terms-read : (s : List ℕ) (lengths : Lengths) {h : Header} → headerOf s ≡ Good h → termsFor s lengths ≡ termsOf lengths h
+unfolding termsFor termsUnder
+terms-read s lengths e = rw e
 
-module _ (s : List ℕ) (p : Place) where
-  pub possible-fits : isPossible s (lengthsAt s p) (p .state) ≡ true → length (p .state .hashes) ≡ 1280 → length (p .state .sizes) ≡ 64 →
-      Fits s (limitsFor s (lengthsAt s p)) p
+module _ (s : List ℕ) (p : Config) where
+  pub possible-fits : isPossible s (lengthsAt s (p .areas)) (p .state) ≡ true → length (p .state .hashes) ≡ tableBytes →
+      length (p .state .sizes) ≡ mostStashes → Fits s (termsFor s (lengthsAt s (p .areas))) p
   unfolding isPossible
   possible-fits e hashes sizes =
-      let lengths = lengthsAt s p in
+      let lengths = lengthsAt s (p .areas) in
       let a = both-true (sameLengths (p .state .lengths) lengths) _ e in
       let b = both-true (eqb (startRefusal s lengths .number) none) _ (a .1) in
       let o = start-none s lengths (eqb-true (startRefusal s lengths .number) none (b .0)) in
       let t = tested s lengths (o .header) (p .state) (rw (o .read) at (b .1)) in
-      rw (limits-read s lengths (o .read)) record {
+      rw (terms-read s lengths (o .read)) record {
         list = o .list;
         at = t .at;
         line = t .line;
@@ -90,48 +93,67 @@ module _ (s : List ℕ) (p : Place) where
         stash = omega (arith, o .blocks);
         most-blocks = omega (arith, o .blocks, o .stash .fits);
         most-stashes = o .stashes;
-        keeps = record {
-          hashes = hashes;
-          sizes = sizes;
-          count = t .count;
-          blocks = omega (arith, t .blocks, o .blocks, o .stash .fits);
-          stash = omega (arith, t .blocks, o .blocks);
-        };
+        whole = record { hashes = hashes; sizes = sizes; count = t .count };
         blocks = t .blocks;
       }
 
 -- ---- what a call comes to
 
-module _ (s piece : List ℕ) (p : Place) where
+module _ (s piece : List ℕ) (p : Config) where
   -- a held refusal is repeated and changes nothing
-  module _ (r : p .state .refusal .number ≡ 0 → ⊥) where
-    pub held-leaves : leaves s piece p ≡ p
-    unfolding leaves isRun
-    held-leaves = rw (ne-eqb (p .state .refusal .number) 0 r)
+  pub held-call : (p .state .refusal .number ≡ none → ⊥) →
+      resultOf (p .areas) (record { state = p .state; outcome = Refused (p .state .refusal); taken = 0 }) ≡ callOf s piece p
+  unfolding callOf leaves takes says isRun outcomeAt
+  held-call r = rw (ne-eqb (p .state .refusal .number) none r)
 
-    pub held-called : calledOf s piece p
-        ≡ record { state = p .state; outcome = Refused (p .state .refusal .number) (p .state .refusal .line); taken = 0 }
-    unfolding calledOf leaves takes says isRun outcomeOf
-    held-called = rw (ne-eqb (p .state .refusal .number) 0 r)
-
-  module _ (r : p .state .refusal .number ≡ 0) where
+  module _ (r : p .state .refusal .number ≡ none) where
     -- so does 17
-    module _ (e : isPossible s (lengthsAt s p) (p .state) ≡ false) where
-      pub impossible-leaves : leaves s piece p ≡ p
-      unfolding leaves isRun
-      impossible-leaves = rw (eq-eqb (p .state .refusal .number) 0 r, e)
-
-      pub impossible-called : calledOf s piece p ≡ record { state = p .state; outcome = Refused stateImpossible 0; taken = 0 }
-      unfolding calledOf leaves takes says isRun
-      impossible-called = rw (eq-eqb (p .state .refusal .number) 0 r, e)
+    pub impossible-call : isPossible s (lengthsAt s (p .areas)) (p .state) ≡ false →
+        resultOf (p .areas) (record { state = p .state; outcome = Refused (refusing stateImpossible 0); taken = 0 }) ≡ callOf s piece p
+    unfolding callOf leaves takes says isRun
+    impossible-call e = rw (eq-eqb (p .state .refusal .number) none r, e)
 
     -- else the lines run
-    module _ (e : isPossible s (lengthsAt s p) (p .state) ≡ true) {limits : Limits} (l : limits ≡ limitsFor s (lengthsAt s p)) where
-      pub run-leaves : leaves s piece p ≡ feeds (machine s limits) piece p
-      unfolding leaves isRun
-      run-leaves = rw (eq-eqb (p .state .refusal .number) 0 r, e, l)
+    pub run-call : isPossible s (lengthsAt s (p .areas)) (p .state) ≡ true → {terms : Terms} → terms ≡ termsFor s (lengthsAt s (p .areas)) →
+        {q : Config} {i : ℕ} → reached q i ≡ runOf s terms piece p → {o : Outcome} → o ≡ outcomeOf s (q .state) →
+        resultOf (q .areas) (record { state = q .state; outcome = o; taken = i }) ≡ callOf s piece p
+    unfolding callOf leaves takes says isRun runOf
+    run-call e l {q} {i} x g =
+        rw (g, ap (λ (k : Reached). k .config) x, ap (λ (k : Reached). k .taken) x, eq-eqb (p .state .refusal .number) none r, e, l)
 
-      pub run-called : {ran : Ran} {o : Outcome} → ran ≡ ranOf s limits piece p → o ≡ outcomeOf s (ran .state) →
-          calledOf s piece p ≡ record { state = ran .state; outcome = o; taken = ran .taken }
-      unfolding calledOf leaves takes says isRun ranOf
-      run-called f g = rw (g, f, eq-eqb (p .state .refusal .number) 0 r, e, l)
+-- ---- what a call's contract says, part by part
+
+-- no more is taken than a piece has
+takes-most : (s q : List ℕ) (p : Config) → takes s q p ≤ length q
+unfolding takes
+takes-most s q p =
+    picks (λ (n : ℕ). n ≤ length q) (isRun s p) (counts (machine s (termsFor s (lengthsAt s (p .areas)))) q p) 0
+    (λ e. counts-most (machine s (termsFor s (lengthsAt s (p .areas)))) (λ (m : Config). ⊥) anywhere q p)
+    (λ e. omega arith)
+  where
+    -- `counts-most` asks for no more than soundness where nothing holds
+    anywhere : Sound (machine s (termsFor s (lengthsAt s (p .areas)))) (λ (m : Config). ⊥)
+    anywhere =
+        record {
+          falls = λ m v. absurd v;
+          rests = λ m v. absurd v;
+          quiet-keeps = λ m v. absurd v;
+          put-keeps = λ m x v. absurd v;
+        }
+
+module _ (s q : List ℕ) (p : Config) {areas : Areas} {called : Called} (e : resultOf areas called ≡ callOf s q p) where
+  pub call-leaves : configOf areas (called .state) ≡ leaves s q p
+  unfolding callOf
+  call-leaves = ap (λ (r : Result). configOf (r .areas) (r .called .state)) e
+
+  pub call-takes : called .taken ≡ takes s q p
+  unfolding callOf
+  call-takes = ap (λ (r : Result). r .called .taken) e
+
+  pub call-says : called .outcome ≡ says s q p
+  unfolding callOf
+  call-says = ap (λ (r : Result). r .called .outcome) e
+
+  -- no more is taken than the piece has
+  pub call-most : called .taken ≤ length q
+  call-most = let t = call-takes in omega (arith, takes-most s q p)

@@ -1,16 +1,17 @@
 -- Document 01, "Putting a source together" and "The stash area".
 -- Assumes nothing: these are definitions.
 use Prim.Native.Nat.{ℕ, _+_, _-_, _*_}
-use mathlib.Core.List.{List, [], _∷_, _++_}
+use mathlib.Core.List.{List, [], _∷_}
+use mathlib.Core.Bool.{Bool}
 use lib.ListN.{take, drop}
-use Rattle.text.specs.Ranges.{span}
-use Rattle.text.specs.Walk.{blocksAt}
-use Rattle.text.specs.declared.ranges.RangeSet.{RangeSet}
+use Rattle.sha1.specs.Sha1.{sha1}
+use Rattle.ranges.specs.Ranges.{span}
+use Rattle.ranges.specs.Walk.{blocksAt}
 use Rattle.state.specs.Limits.{blockBytes}
-use Rattle.state.specs.Stashes.{Stash, findIn, sizeAt, blocksHeld}
+use Rattle.state.specs.Stashes.{Stash, same, findIn, sizeAt, blocksHeld}
 use Rattle.state.specs.declared.stashes.Found.{Found}
 use Rattle.state.specs.declared.stashes.Found.the-variants.{At, Nothing}
-use Rattle.command.specs.Parts.{Named, namedAt}
+use Rattle.command.specs.Parts.{StashUse, usesAt}
 use Rattle.command.specs.declared.source.Source.{Source}
 use Rattle.command.specs.declared.source.Source.the-variants.{Blocks, Stashes, Both}
 use Rattle.updater.specs.Bytes.{gathered, written, movedDown}
@@ -28,7 +29,7 @@ unfoldable pub stashBytes : List Stash → List ℕ → List ℕ → List ℕ
 stashBytes held stash hash = foundBytes held stash (findIn held hash)
 
 -- each P's whole stash is spread over its places, in order
-unfoldable pub spread : List ℕ → List Stash → List ℕ → List Named → List ℕ → List ℕ
+unfoldable pub spread : List ℕ → List Stash → List ℕ → List StashUse → List ℕ → List ℕ
 spread l held stash [] work = work
 spread l held stash (p ∷ ps) work =
     spread l held stash ps (written (blocksAt l (p .places .at)) (stashBytes held stash (p .hash)) work)
@@ -40,9 +41,13 @@ supplied l image at n work = written (span 0 n) (gathered (blocksAt l at) image)
 -- the source of a `move`, put together in the work area: form one; the stashes alone; the blocks of S over L's places, then the stashes
 unfoldable pub together : List ℕ → List ℕ → List ℕ → List Stash → Source → List ℕ → List ℕ
 together l image stash held (Blocks set) work = supplied l image (set .at) (set .blocks) work
-together l image stash held (Stashes first) work = spread l held stash (namedAt l first) work
+together l image stash held (Stashes first) work = spread l held stash (usesAt l first) work
 together l image stash held (Both set places first) work =
-    spread l held stash (namedAt l first) (written (blocksAt l (places .at)) (gathered (blocksAt l (set .at)) image) work)
+    spread l held stash (usesAt l first) (written (blocksAt l (places .at)) (gathered (blocksAt l (set .at)) image) work)
+
+-- the first n blocks of the work area hash to H
+unfoldable pub hashesTo : List ℕ → ℕ → List ℕ → Bool
+hashesTo work n hash = same (sha1 (take (blockBytes * n) work)) hash
 
 -- the stash area without stash j: the younger ones move down over the gap
 unfoldable pub closedUp : List Stash → ℕ → List ℕ → List ℕ

@@ -1,10 +1,10 @@
 // Bytes copied between areas, a block or more at a time.
 ghost use mathlib.Core.Path.{_≡_};
 ghost use mathlib.Core.List.{_++_};
-ghost use mathlib.Core.Bool.{Bool, true, false};
-ghost use Prim.Native.Nat.{_+_, _-_, _*_, _≤_, _<_};
+ghost use Prim.Native.Nat.{_+_, _*_, _≤_};
 ghost use lib.ListN.{length, take, drop, replicate};
 ghost use Rattle.text.specs.Choice.{pick};
+ghost use Rattle.state.specs.Limits.{blockBytes};
 ghost use Rattle.updater.specs.Bytes.{over, blockAt, movedDown};
 use state::limits::BLOCK_BYTES;
 
@@ -60,7 +60,7 @@ pub(crate) fn source_block<'a>(
     stashed: bool,
     k: usize,
 ) -> &'a [u8]
-    requires { ⌜ 4096 * k + 4096 ≤ length (pick stashed (now stash) (now image)) ⌝ }
+    requires { ⌜ blockBytes * k + blockBytes ≤ length (pick stashed (now stash) (now image)) ⌝ }
     ensures { λ r. ⌜ now r ≡ blockAt (pick stashed (now (stash .entry)) (now (image .entry))) k ⌝ }
 {
     let start = BLOCK_BYTES * k;
@@ -80,9 +80,9 @@ pub(crate) fn place_block<'a>(
     k: usize,
     p: usize,
 )
-    requires { ⌜ 4096 * k + 4096 ≤ length (pick stashed (now stash) (now image)) ⌝ }
-    requires { ⌜ 4096 * p + 4096 ≤ length (now work) ⌝ }
-    ensures { λ _. ⌜ now (work .exit) ≡ over (now (work .entry)) (4096 * p) (blockAt (pick stashed (now (stash .entry)) (now (image .entry))) k) ⌝ }
+    requires { ⌜ blockBytes * k + blockBytes ≤ length (pick stashed (now stash) (now image)) ⌝ }
+    requires { ⌜ blockBytes * p + blockBytes ≤ length (now work) ⌝ }
+    ensures { λ _. ⌜ now (work .exit) ≡ over (now (work .entry)) (blockBytes * p) (blockAt (pick stashed (now (stash .entry)) (now (image .entry))) k) ⌝ }
 {
     let at = BLOCK_BYTES * p;
     let from = source_block(image, stash, stashed, k);

@@ -1,29 +1,28 @@
 // Running an opened list over a lent image.
 ghost use mathlib.Core.Path.{_≡_};
-ghost use Rattle.updater.specs.Calls.{outcomeOf, leaves, calledOf};
-ghost use Rattle.updater.specs.Steps.{placeOf};
-use crate::possible::is_possible;
-use crate::possible::limits_for;
+ghost use Rattle.updater.specs.Areas.{areasOf};
+ghost use Rattle.updater.specs.Calls.{outcomeAt, resultOf, callOf};
+ghost use Rattle.updater.specs.Steps.{configOf};
 use crate::run::run_lines;
+use possible::is_possible;
+use possible::terms_for;
 use state::Lengths;
+use state::Refusal;
 use state::State;
 use state::refusals::STATE_IMPOSSIBLE;
 
 mod areas;
 mod commands;
-mod fresh;
-pub mod pieces;
-mod possible;
+mod new_data;
 mod run;
 mod sets;
 mod source;
-mod steps;
 
-// Done, more new data wanted, or refused with a number and a line.
+// Done, more new data wanted, or refused.
 pub enum Outcome {
     Done,
     More,
-    Refused { number: usize, line: usize },
+    Refused(Refusal),
 }
 
 // What a call gives back.
@@ -33,17 +32,14 @@ pub struct Called {
     pub taken: usize,
 }
 
-fn outcome_of(list: &[u8], s: State) -> Outcome
-    ensures { λ r. ⌜ r ≡ outcomeOf (now (list .entry)) s ⌝ }
+// What a run says that was left at a position of a list of that length, with that refusal.
+fn outcome_at(list: usize, at: usize, refusal: Refusal) -> Outcome
+    ensures { λ r. ⌜ r ≡ outcomeAt list at refusal ⌝ }
 {
-    let refusal = s.refusal;
     if refusal.number != 0 {
-        return Outcome::Refused {
-            number: refusal.number,
-            line: refusal.line,
-        };
+        return Outcome::Refused(refusal);
     }
-    if list.len() <= s.at {
+    if list <= at {
         return Outcome::Done;
     }
     Outcome::More
@@ -58,19 +54,13 @@ pub fn call(
     piece: &[u8],
     state: State,
 ) -> Called
-    ensures { λ r. ⌜ r ≡ calledOf (now (list .entry)) (now (piece .entry)) (placeOf (now (image .entry)) (now (stash .entry)) (now (work .entry)) state) ⌝ }
-    ensures { λ _. ⌜ now (image .exit) ≡ leaves (now (list .entry)) (now (piece .entry)) (placeOf (now (image .entry)) (now (stash .entry)) (now (work .entry)) state) .image ⌝ }
-    ensures { λ _. ⌜ now (stash .exit) ≡ leaves (now (list .entry)) (now (piece .entry)) (placeOf (now (image .entry)) (now (stash .entry)) (now (work .entry)) state) .stash ⌝ }
-    ensures { λ _. ⌜ now (work .exit) ≡ leaves (now (list .entry)) (now (piece .entry)) (placeOf (now (image .entry)) (now (stash .entry)) (now (work .entry)) state) .work ⌝ }
+    ensures { λ r. ⌜ resultOf (areasOf (now (image .exit)) (now (stash .exit)) (now (work .exit))) r ≡ callOf (now (list .entry)) (now (piece .entry)) (configOf (areasOf (now (image .entry)) (now (stash .entry)) (now (work .entry))) state) ⌝ }
 {
     let held = state.refusal;
     if held.number != 0 {
         return Called {
             state,
-            outcome: Outcome::Refused {
-                number: held.number,
-                line: held.line,
-            },
+            outcome: Outcome::Refused(held),
             taken: 0,
         };
     }
@@ -83,17 +73,18 @@ pub fn call(
     if !is_possible(list, lengths, state) {
         return Called {
             state,
-            outcome: Outcome::Refused {
+            outcome: Outcome::Refused(Refusal {
                 number: STATE_IMPOSSIBLE,
                 line: 0,
-            },
+            }),
             taken: 0,
         };
     }
-    let limits = limits_for(list, lengths);
-    let ran = run_lines(list, image, stash, work, piece, limits, state);
+    let terms = terms_for(list, lengths);
+    let ran = run_lines(list, image, stash, work, piece, terms, state);
     let last = ran.state;
-    let outcome = outcome_of(list, last);
+    let refusal = last.refusal;
+    let outcome = outcome_at(list.len(), last.at, refusal);
     Called {
         state: last,
         outcome,

@@ -1,21 +1,20 @@
 // The lines of a list, run until the next byte of new data is needed, the list is finished, or something is refused.
 ghost use mathlib.Core.Path.{_≡_};
-ghost use Rattle.updater.specs.Machine.{feeds};
-ghost use Rattle.updater.specs.Steps.{placeOf};
-ghost use Rattle.updater.specs.Run.{wantedBy, machine, ranOf};
+ghost use Rattle.updater.specs.Areas.{areasOf};
+ghost use Rattle.updater.specs.Steps.{configOf};
+ghost use Rattle.updater.specs.Run.{reached, runOf};
 ghost use Rattle.updater.specs.Fits.{Fits};
 use crate::commands::run_command;
-use crate::fresh::take_new;
-use crate::steps::further;
-use crate::steps::pass;
-use crate::steps::refuse;
-use command::Command;
-use rules::Limits;
+use crate::new_data::take_new;
+use command::targets::NewTarget;
+use command::targets::new_target;
+use rules::Terms;
 use rules::check_line;
+use rules::held::hold_after;
+use state::Refusal;
 use state::State;
 use state::limits::BLOCK_BYTES;
 use text::line::line_at;
-use text::ranges::RangeSet;
 
 // Where a run was left, and the bytes it took.
 pub struct Ran {
@@ -23,77 +22,80 @@ pub struct Ran {
     pub taken: usize,
 }
 
-// The target that new data goes to, where a command wants any.
-pub enum Wanted {
-    Target(RangeSet),
-    Nothing,
-}
-
-fn wanted_by(command: Command) -> Wanted
-    ensures { λ r. ⌜ r ≡ wantedBy command ⌝ }
-{
-    match command {
-        Command::New(set) => Wanted::Target(set),
-        Command::Zero(_) => Wanted::Nothing,
-        Command::Move {
-            target: _,
-            length: _,
-            source: _,
-        } => Wanted::Nothing,
-        Command::Stash(_) => Wanted::Nothing,
-        Command::Free => Wanted::Nothing,
-        Command::Patch => Wanted::Nothing,
-        Command::Bad(_) => Wanted::Nothing,
-    }
-}
-
+// The stashes' tables are taken out of the state once, and read and written where they lie.
 pub(crate) fn run_lines(
     list: &[u8],
     image: &mut [u8],
     stash: &mut [u8],
     work: &mut [u8],
     piece: &[u8],
-    limits: Limits,
+    terms: Terms,
     state: State,
 ) -> Ran
-    requires { ⌜ Fits (now list) limits (placeOf (now image) (now stash) (now work) state) ⌝ }
-    ensures { λ r. ⌜ r ≡ ranOf (now (list .entry)) limits (now (piece .entry)) (placeOf (now (image .entry)) (now (stash .entry)) (now (work .entry)) state) ⌝ }
-    ensures { λ _. ⌜ now (image .exit) ≡ feeds (machine (now (list .entry)) limits) (now (piece .entry)) (placeOf (now (image .entry)) (now (stash .entry)) (now (work .entry)) state) .image ⌝ }
-    ensures { λ _. ⌜ now (stash .exit) ≡ feeds (machine (now (list .entry)) limits) (now (piece .entry)) (placeOf (now (image .entry)) (now (stash .entry)) (now (work .entry)) state) .stash ⌝ }
-    ensures { λ _. ⌜ now (work .exit) ≡ feeds (machine (now (list .entry)) limits) (now (piece .entry)) (placeOf (now (image .entry)) (now (stash .entry)) (now (work .entry)) state) .work ⌝ }
+    requires { ⌜ Fits (now list) terms (configOf (areasOf (now image) (now stash) (now work)) state) ⌝ }
+    requires { ⌜ state .refusal .number ≡ 0 ⌝ }
+    ensures { λ r. ⌜ reached (configOf (areasOf (now (image .exit)) (now (stash .exit)) (now (work .exit))) (r .state)) (r .taken) ≡ runOf (now (list .entry)) terms (now (piece .entry)) (configOf (areasOf (now (image .entry)) (now (stash .entry)) (now (work .entry))) state) ⌝ }
 {
-    let mut s = state;
+    let mut hashes = state.hashes;
+    let mut sizes = state.sizes;
+    let mut count = state.count;
+    let mut line = state.line;
+    let mut at = state.at;
+    let mut into = state.into;
+    let mut refusal = state.refusal;
+    let lengths = state.lengths;
     let mut i = 0;
-    'lines: loop {
-        let refusal = s.refusal;
-        if refusal.number != 0 {
-            break 'lines;
-        }
-        if list.len() <= s.at {
-            break 'lines;
-        }
-        let l = line_at(list, s.at);
-        let checked = check_line(l, limits, s);
+    'lines: while at < list.len() {
+        let l = line_at(list, at);
+        let checked = check_line(l, terms, &hashes, &sizes, count);
         if checked.refusal != 0 {
-            s = refuse(s, checked.refusal);
+            refusal = Refusal {
+                number: checked.refusal,
+                line,
+            };
             break 'lines;
         }
-        let line = checked.line;
-        let command = line.command;
-        match wanted_by(command) {
-            Wanted::Target(set) => {
-                let left = take_new(image, l, set.at, piece, i, s.into);
-                s = further(s, left - i);
+        let read = checked.line;
+        let command = read.command;
+        match new_target(command) {
+            NewTarget::Set(set) => {
+                let left = take_new(image, l, set.at, piece, i, into);
+                into = into + (left - i);
                 i = left;
-                if s.into / BLOCK_BYTES < set.blocks {
+                if into / BLOCK_BYTES < set.blocks {
                     break 'lines;
                 }
-                s = pass(s, l.len());
+                into = 0;
+                at = at + l.len();
+                line = line + 1;
             }
-            Wanted::Nothing => {
-                s = run_command(image, stash, work, l, line, s);
+            NewTarget::None => {
+                let stopped = run_command(image, stash, work, l, read, &hashes, &sizes, count);
+                if stopped != 0 {
+                    refusal = Refusal {
+                        number: stopped,
+                        line,
+                    };
+                    break 'lines;
+                }
+                count = hold_after(&mut hashes, &mut sizes, count, read);
+                into = 0;
+                at = at + l.len();
+                line = line + 1;
             }
         }
     }
-    Ran { state: s, taken: i }
+    Ran {
+        state: State {
+            hashes,
+            sizes,
+            count,
+            line,
+            at,
+            into,
+            refusal,
+            lengths,
+        },
+        taken: i,
+    }
 }

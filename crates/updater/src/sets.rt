@@ -1,22 +1,24 @@
 // Effects over the blocks of a range set, in the written order.
 ghost use mathlib.Core.Path.{_≡_};
-ghost use mathlib.Core.Bool.{true, false};
-ghost use Prim.Native.Nat.{_+_, _-_, _*_, _/_, _≤_, _<_};
-ghost use lib.ListN.{length, take, drop};
-ghost use Rattle.text.specs.Ranges.{span};
-ghost use Rattle.text.specs.Walk.{blocksAt, AllBelow};
+ghost use Prim.Native.Nat.{_*_, _/_, _≤_};
+ghost use lib.ListN.{length};
+ghost use Rattle.text.specs.Choice.{pick};
+ghost use Rattle.ranges.specs.Walk.{blocksAt, AllBelow};
+ghost use Rattle.state.specs.Limits.{blockBytes};
 ghost use Rattle.updater.specs.Bytes.{zeroed, gathered, written};
+ghost use Rattle.updater.specs.Fills.{blocksLeft, blocksFrom};
 use crate::areas::copy_over;
 use crate::areas::place_block;
 use crate::areas::zero_all;
+use ranges::walk::Step;
+use ranges::walk::Walk;
+use ranges::walk::next_block;
+use ranges::walk::walk_from;
 use state::limits::BLOCK_BYTES;
-use text::walk::Step;
-use text::walk::next_block;
-use text::walk::walk_from;
 
 // Zeros over the blocks of the set at a position of the line.
 pub(crate) fn zero_set(image: &mut [u8], l: &[u8], at: usize)
-    requires { ⌜ AllBelow (length (now image) / 4096) (blocksAt (now l) at) ⌝ }
+    requires { ⌜ AllBelow (length (now image) / blockBytes) (blocksAt (now l) at) ⌝ }
     ensures { λ _. ⌜ now (image .exit) ≡ zeroed (blocksAt (now (l .entry)) at) (now (image .entry)) ⌝ }
 {
     let mut w = walk_from(l, at);
@@ -37,7 +39,7 @@ pub(crate) fn zero_set(image: &mut [u8], l: &[u8], at: usize)
 
 // Bytes over the blocks of the set.
 pub(crate) fn write_set(image: &mut [u8], l: &[u8], at: usize, bytes: &[u8])
-    requires { ⌜ AllBelow (length (now image) / 4096) (blocksAt (now l) at) × (4096 * length (blocksAt (now l) at) ≤ length (now bytes)) ⌝ }
+    requires { ⌜ AllBelow (length (now image) / blockBytes) (blocksAt (now l) at) × (blockBytes * length (blocksAt (now l) at) ≤ length (now bytes)) ⌝ }
     ensures { λ _. ⌜ now (image .exit) ≡ written (blocksAt (now (l .entry)) at) (now (bytes .entry)) (now (image .entry)) ⌝ }
 {
     let mut w = walk_from(l, at);
@@ -56,85 +58,73 @@ pub(crate) fn write_set(image: &mut [u8], l: &[u8], at: usize, bytes: &[u8])
     }
 }
 
-// The set's blocks of the image become the work area's first ones.
-pub(crate) fn fill_front<'a>(image: &'a [u8], stash: &'a [u8], work: &mut [u8], l: &[u8], at: usize)
-    requires { ⌜ AllBelow (length (now image) / 4096) (blocksAt (now l) at) × (4096 * length (blocksAt (now l) at) ≤ length (now work)) ⌝ }
-    ensures { λ _. ⌜ now (work .exit) ≡ written (span 0 (length (blocksAt (now (l .entry)) at))) (gathered (blocksAt (now (l .entry)) at) (now (image .entry))) (now (work .entry)) ⌝ }
+// The blocks of one side of a copy: those of a set of the line, or a row of consecutive ones.
+pub enum Blocks {
+    Set(Walk),
+    Row { next: usize, end: usize },
+}
+
+pub enum Next {
+    Block(usize, Blocks),
+    Done,
+}
+
+// The next block of a side, and what is left of it.
+fn next_of(l: &[u8], blocks: Blocks) -> Next
+    ensures { λ r. ⌜ blocksFrom (now (l .entry)) r ≡ blocksLeft (now (l .entry)) blocks ⌝ }
 {
-    let mut w = walk_from(l, at);
-    let mut k = 0;
-    loop {
-        match next_block(l, w) {
-            Step::Done => {
-                return;
+    match blocks {
+        Blocks::Set(walk) => match next_block(l, walk) {
+            Step::Done => Next::Done,
+            Step::Block(b, rest) => Next::Block(b as usize, Blocks::Set(rest)),
+        },
+        Blocks::Row { next, end } => {
+            if end <= next {
+                return Next::Done;
             }
-            Step::Block(b, rest) => {
-                place_block(image, stash, work, false, b as usize, k);
-                k += 1;
-                w = rest;
-            }
+            Next::Block(
+                next,
+                Blocks::Row {
+                    next: next + 1,
+                    end,
+                },
+            )
         }
     }
 }
 
-// The blocks of one set, of the image, go to the work area's places that another set names.
-pub(crate) fn fill_places<'a>(
+// The blocks of one side, of the image or of the stash area, become the work area's blocks that the other side names.
+pub(crate) fn fill<'a>(
     image: &'a [u8],
     stash: &'a [u8],
     work: &mut [u8],
     l: &[u8],
-    at: usize,
-    places: usize,
+    stashed: bool,
+    blocks: Blocks,
+    places: Blocks,
 )
-    requires { ⌜ AllBelow (length (now image) / 4096) (blocksAt (now l) at) × AllBelow (length (now work) / 4096) (blocksAt (now l) places) ⌝ }
-    requires { ⌜ length (blocksAt (now l) at) ≡ length (blocksAt (now l) places) ⌝ }
-    ensures { λ _. ⌜ now (work .exit) ≡ written (blocksAt (now (l .entry)) places) (gathered (blocksAt (now (l .entry)) at) (now (image .entry))) (now (work .entry)) ⌝ }
+    requires { ⌜ AllBelow (length (pick stashed (now stash) (now image)) / blockBytes) (blocksLeft (now l) blocks) ⌝ }
+    requires { ⌜ AllBelow (length (now work) / blockBytes) (blocksLeft (now l) places) ⌝ }
+    requires { ⌜ length (blocksLeft (now l) blocks) ≡ length (blocksLeft (now l) places) ⌝ }
+    ensures { λ _. ⌜ now (work .exit) ≡ written (blocksLeft (now (l .entry)) places) (gathered (blocksLeft (now (l .entry)) blocks) (pick stashed (now (stash .entry)) (now (image .entry)))) (now (work .entry)) ⌝ }
 {
-    let mut from = walk_from(l, at);
-    let mut to = walk_from(l, places);
+    let mut from = blocks;
+    let mut to = places;
     loop {
-        match next_block(l, from) {
-            Step::Done => {
+        match next_of(l, from) {
+            Next::Done => {
                 return;
             }
-            Step::Block(b, more) => match next_block(l, to) {
-                Step::Done => {
+            Next::Block(b, more) => match next_of(l, to) {
+                Next::Done => {
                     return;
                 }
-                Step::Block(p, rest) => {
-                    place_block(image, stash, work, false, b as usize, p as usize);
+                Next::Block(p, rest) => {
+                    place_block(image, stash, work, stashed, b, p);
                     from = more;
                     to = rest;
                 }
             },
-        }
-    }
-}
-
-// The stash area's blocks from `start` on go to the work area's places that a set names.
-pub(crate) fn fill_stash<'a>(
-    image: &'a [u8],
-    stash: &'a [u8],
-    work: &mut [u8],
-    l: &[u8],
-    places: usize,
-    start: usize,
-)
-    requires { ⌜ AllBelow (length (now work) / 4096) (blocksAt (now l) places) × (4096 * (start + length (blocksAt (now l) places)) ≤ length (now stash)) ⌝ }
-    ensures { λ _. ⌜ now (work .exit) ≡ written (blocksAt (now (l .entry)) places) (take (4096 * length (blocksAt (now (l .entry)) places)) (drop (4096 * start) (now (stash .entry)))) (now (work .entry)) ⌝ }
-{
-    let mut w = walk_from(l, places);
-    let mut k = start;
-    loop {
-        match next_block(l, w) {
-            Step::Done => {
-                return;
-            }
-            Step::Block(p, rest) => {
-                place_block(image, stash, work, true, k, p as usize);
-                k += 1;
-                w = rest;
-            }
         }
     }
 }

@@ -1,25 +1,29 @@
 // A source put together in the work area.
 ghost use mathlib.Core.Path.{_≡_};
-ghost use Prim.Native.Nat.{_/_};
+ghost use Prim.Native.Nat.{_/_, _≤_};
 ghost use lib.ListN.{length};
-ghost use Rattle.text.specs.Walk.{blocksAt};
-ghost use Rattle.state.specs.Stashes.{held};
-ghost use Rattle.command.specs.Parts.{namedAt};
+ghost use Rattle.ranges.specs.Walk.{blocksAt};
+ghost use Rattle.state.specs.Limits.{blockBytes};
+ghost use Rattle.state.specs.Stashes.{tableAt, heldIn};
+ghost use Rattle.command.specs.Parts.{usesAt};
+ghost use Rattle.updater.specs.Areas.{areasOf};
 ghost use Rattle.updater.specs.Bytes.{written};
-ghost use Rattle.updater.specs.Source.{stashBytes, spread, together};
-ghost use Rattle.updater.specs.Steps.{placeOf};
-ghost use Rattle.updater.specs.Runnable.{Keeps, namedAs, Spread, Spreads, Sourced};
-use crate::sets::fill_front;
-use crate::sets::fill_places;
-use crate::sets::fill_stash;
+ghost use Rattle.updater.specs.Source.{stashBytes, spread, supplied, together};
+ghost use Rattle.updater.specs.Runnable.{Keeps, useOf, Spread, Spreads, InImage, Sourced};
+use crate::sets::Blocks;
+use crate::sets::fill;
 use command::parts::PartRead;
 use command::parts::read_part;
 use command::source::Source;
-use state::State;
+use ranges::RangeSet;
+use ranges::walk::walk_from;
+use state::limits::HASH_BYTES;
+use state::limits::MOST_STASHES;
+use state::limits::TABLE_BYTES;
 use state::stashes::Found;
 use state::stashes::blocks_before;
 use state::stashes::find_stash;
-use text::ranges::RangeSet;
+use state::stashes::stash_blocks;
 
 // One stash, by its hash, over the places of a set.
 fn spread_one<'a>(
@@ -27,32 +31,45 @@ fn spread_one<'a>(
     stash: &'a [u8],
     work: &mut [u8],
     l: &[u8],
+    hashes: &[u8; TABLE_BYTES],
+    sizes: &[usize; MOST_STASHES],
+    count: usize,
     places: RangeSet,
-    s: State,
-    hash: [u8; 20],
+    hash: [u8; HASH_BYTES],
 )
-    requires { ⌜ Keeps (placeOf (now image) (now stash) (now work) s) ⌝ }
-    requires { ⌜ Spread (now l) (held s) (length (now work) / 4096) (namedAs hash places) ⌝ }
-    ensures { λ _. ⌜ now (work .exit) ≡ written (blocksAt (now (l .entry)) (places .at)) (stashBytes (held s) (now (stash .entry)) hash) (now (work .entry)) ⌝ }
+    requires { ⌜ Keeps (heldIn (tableAt (now hashes) (now sizes) count)) (now stash) ⌝ }
+    requires { ⌜ Spread (now l) (heldIn (tableAt (now hashes) (now sizes) count)) (length (now work) / blockBytes) (useOf hash places) ⌝ }
+    ensures { λ _. ⌜ now (work .exit) ≡ written (blocksAt (now (l .entry)) (places .at)) (stashBytes (heldIn (tableAt (now (hashes .entry)) (now (sizes .entry)) count)) (now (stash .entry)) hash) (now (work .entry)) ⌝ }
 {
-    if let Found::At(j) = find_stash(s, hash) {
-        let start = blocks_before(s, j);
-        fill_stash(image, stash, work, l, places.at, start);
+    if let Found::At(j) = find_stash(hashes, count, hash) {
+        let start = blocks_before(sizes, count, j);
+        let end = start + stash_blocks(sizes, count, j);
+        fill(
+            image,
+            stash,
+            work,
+            l,
+            true,
+            Blocks::Row { next: start, end },
+            Blocks::Set(walk_from(l, places.at)),
+        );
     }
 }
 
-// Every stash named from a position on, over its places.
-fn spread_named<'a>(
+// Every stash used from a position of the line on, over its places.
+fn spread_stashes<'a>(
     image: &'a [u8],
     stash: &'a [u8],
     work: &mut [u8],
     l: &[u8],
+    hashes: &[u8; TABLE_BYTES],
+    sizes: &[usize; MOST_STASHES],
+    count: usize,
     first: usize,
-    s: State,
 )
-    requires { ⌜ Keeps (placeOf (now image) (now stash) (now work) s) ⌝ }
-    requires { ⌜ Spreads (now l) (held s) (length (now work) / 4096) (namedAt (now l) first) ⌝ }
-    ensures { λ _. ⌜ now (work .exit) ≡ spread (now (l .entry)) (held s) (now (stash .entry)) (namedAt (now (l .entry)) first) (now (work .entry)) ⌝ }
+    requires { ⌜ Keeps (heldIn (tableAt (now hashes) (now sizes) count)) (now stash) ⌝ }
+    requires { ⌜ Spreads (now l) (heldIn (tableAt (now hashes) (now sizes) count)) (length (now work) / blockBytes) (usesAt (now l) first) ⌝ }
+    ensures { λ _. ⌜ now (work .exit) ≡ spread (now (l .entry)) (heldIn (tableAt (now (hashes .entry)) (now (sizes .entry)) count)) (now (stash .entry)) (usesAt (now (l .entry)) first) (now (work .entry)) ⌝ }
 {
     let mut at = first;
     loop {
@@ -64,15 +81,34 @@ fn spread_named<'a>(
                 return;
             }
             PartRead::Last(places, _) => {
-                spread_one(image, stash, work, l, places, s, hash);
+                spread_one(image, stash, work, l, hashes, sizes, count, places, hash);
                 return;
             }
             PartRead::More(places, next) => {
-                spread_one(image, stash, work, l, places, s, hash);
+                spread_one(image, stash, work, l, hashes, sizes, count, places, hash);
                 at = next;
             }
         }
     }
+}
+
+// S alone: its blocks become the work area's first ones.
+pub(crate) fn supply<'a>(image: &'a [u8], stash: &'a [u8], work: &mut [u8], l: &[u8], set: RangeSet)
+    requires { ⌜ InImage (now l) (now image) set × (set .blocks ≤ length (now work) / blockBytes) ⌝ }
+    ensures { λ _. ⌜ now (work .exit) ≡ supplied (now (l .entry)) (now (image .entry)) (set .at) (set .blocks) (now (work .entry)) ⌝ }
+{
+    fill(
+        image,
+        stash,
+        work,
+        l,
+        false,
+        Blocks::Set(walk_from(l, set.at)),
+        Blocks::Row {
+            next: 0,
+            end: set.blocks,
+        },
+    );
 }
 
 // The source of a `move`.
@@ -81,27 +117,37 @@ pub(crate) fn put_together<'a>(
     stash: &'a [u8],
     work: &mut [u8],
     l: &[u8],
+    hashes: &[u8; TABLE_BYTES],
+    sizes: &[usize; MOST_STASHES],
+    count: usize,
     source: Source,
-    s: State,
 )
-    requires { ⌜ Keeps (placeOf (now image) (now stash) (now work) s) ⌝ }
-    requires { ⌜ Sourced (now l) (placeOf (now image) (now stash) (now work) s) source ⌝ }
-    ensures { λ _. ⌜ now (work .exit) ≡ together (now (l .entry)) (now (image .entry)) (now (stash .entry)) (held s) source (now (work .entry)) ⌝ }
+    requires { ⌜ Keeps (heldIn (tableAt (now hashes) (now sizes) count)) (now stash) ⌝ }
+    requires { ⌜ Sourced (now l) (heldIn (tableAt (now hashes) (now sizes) count)) (areasOf (now image) (now stash) (now work)) source ⌝ }
+    ensures { λ _. ⌜ now (work .exit) ≡ together (now (l .entry)) (now (image .entry)) (now (stash .entry)) (heldIn (tableAt (now (hashes .entry)) (now (sizes .entry)) count)) source (now (work .entry)) ⌝ }
 {
     match source {
         Source::Blocks(set) => {
-            fill_front(image, stash, work, l, set.at);
+            supply(image, stash, work, l, set);
         }
         Source::Stashes(first) => {
-            spread_named(image, stash, work, l, first, s);
+            spread_stashes(image, stash, work, l, hashes, sizes, count, first);
         }
         Source::Both {
             blocks,
             places,
             first,
         } => {
-            fill_places(image, stash, work, l, blocks.at, places.at);
-            spread_named(image, stash, work, l, first, s);
+            fill(
+                image,
+                stash,
+                work,
+                l,
+                false,
+                Blocks::Set(walk_from(l, blocks.at)),
+                Blocks::Set(walk_from(l, places.at)),
+            );
+            spread_stashes(image, stash, work, l, hashes, sizes, count, first);
         }
     }
 }

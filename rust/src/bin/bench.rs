@@ -1,11 +1,13 @@
-//! Times of the library beside plain Rust: medians of nine runs, the two sides taking turns.
+//! Times of the library beside the same work in plain Rust. The two sides take turns, and which is first changes from run to run, so
+//! that a slow phase of the machine meets both. Times are processor time, medians of nine runs; the ratio is the median of the nine runs' ratios, with the
+//! least and the greatest beside it.
 //! usage: bench [--self] [digest] [moves] [open] [new]   (--self times the reference in the library's place; no words: all)
 
 use outside::generate::{hash_text, Rng};
-use outside::reference::{self, digest, Hash, State, BLOCK, DONE, MORE, MOST_LIST};
+use outside::reference::{digest, State, BLOCK, DONE, MORE, MOST_LIST};
 use outside::{library, Reference, Updater};
 use std::hint::black_box;
-use std::time::{Duration, Instant};
+use std::time::Duration;
 
 const RUNS: usize = 9;
 
@@ -21,7 +23,7 @@ fn main() {
             std::process::exit(2)
         })
     };
-    println!("{:<44} {:>12} {:>12} {:>7}", "medians of nine runs", "library", "plain Rust", "ratio");
+    println!("{:<48} {:>12} {:>12} {:>7}", "medians of nine runs", "library", "plain Rust", "ratio");
     let wanted = |name: &str| chosen.is_empty() || chosen.contains(&name);
     if wanted("digest") {
         digests(on);
@@ -37,19 +39,54 @@ fn main() {
     }
 }
 
-/// Medians of nine runs of each of the two, taking turns.
-fn medians(mut ours: impl FnMut() -> Duration, mut plain: impl FnMut() -> Duration) -> (Duration, Duration) {
-    let mut times: Vec<(Duration, Duration)> = (0..RUNS).map(|_| (ours(), plain())).collect();
-    times.sort_by_key(|t| t.0);
-    let first = times[RUNS / 2].0;
-    times.sort_by_key(|t| t.1);
-    (first, times[RUNS / 2].1)
+/// The times of one side and of the other, run by run.
+type Times = Vec<(Duration, Duration)>;
+
+/// Nine runs of each of the two, after one that is not counted.
+fn turns(mut ours: impl FnMut() -> Duration, mut plain: impl FnMut() -> Duration) -> Times {
+    (ours(), plain());
+    (0..RUNS)
+        .map(|k| {
+            if k % 2 == 0 {
+                let first = ours();
+                (first, plain())
+            } else {
+                let first = plain();
+                (ours(), first)
+            }
+        })
+        .collect()
+}
+
+fn sorted<T: PartialOrd>(values: impl Iterator<Item = T>) -> Vec<T> {
+    let mut all: Vec<T> = values.collect();
+    all.sort_by(|a, b| a.partial_cmp(b).unwrap_or(std::cmp::Ordering::Equal));
+    all
+}
+
+#[repr(C)]
+struct Timespec {
+    seconds: i64,
+    nanoseconds: i64,
+}
+
+extern "C" {
+    fn clock_gettime(clock: i32, time: *mut Timespec) -> i32;
+}
+
+/// The processor time of this thread: what other programs take does not count.
+fn processor_time() -> Duration {
+    const THREAD: i32 = 3;
+    let mut now = Timespec { seconds: 0, nanoseconds: 0 };
+    // SAFETY: one struct is lent to be written.
+    assert!(unsafe { clock_gettime(THREAD, &mut now) } == 0);
+    Duration::new(now.seconds as u64, now.nanoseconds as u32)
 }
 
 fn timed(mut f: impl FnMut()) -> Duration {
-    let start = Instant::now();
+    let start = processor_time();
     f();
-    start.elapsed()
+    processor_time() - start
 }
 
 /// A value that is used, for all the compiler knows.
@@ -67,10 +104,12 @@ fn text(time: Duration) -> String {
 }
 
 /// One line: both times, their ratio, and the speed of each over so many bytes.
-fn line(name: &str, (ours, plain): (Duration, Duration), bytes: usize) {
-    let ratio = ours.as_secs_f64() / plain.as_secs_f64().max(1e-12);
+fn line(name: &str, times: Times, bytes: usize) {
+    let ours = sorted(times.iter().map(|t| t.0))[RUNS / 2];
+    let plain = sorted(times.iter().map(|t| t.1))[RUNS / 2];
+    let ratios = sorted(times.iter().map(|t| t.0.as_secs_f64() / t.1.as_secs_f64().max(1e-12)));
     let speed = |time: Duration| bytes as f64 / 1e6 / time.as_secs_f64().max(1e-12);
-    print!("{name:<44} {:>12} {:>12} {ratio:>7.2}", text(ours), text(plain));
+    print!("{name:<48} {:>12} {:>12} {:>7.2} ({:.2} to {:.2})", text(ours), text(plain), ratios[RUNS / 2], ratios[0], ratios[RUNS - 1]);
     if bytes > 0 {
         print!("   {:.1} and {:.1} MB/s", speed(ours), speed(plain));
     }
@@ -89,28 +128,12 @@ fn digests(on: &dyn Updater) {
         let times = ((4 << 20) / size) as u32;
         let ours = || timed(|| (0..times).for_each(|_| keep(on.digest(black_box(&bytes))))) / times;
         let plain = || timed(|| (0..times).for_each(|_| keep(digest(black_box(&bytes))))) / times;
-        line(&format!("digest, {name}"), medians(ours, plain), size);
+        line(&format!("digest, {name}"), turns(ours, plain), size);
     }
 }
 
 const MOVES: usize = 2_000;
 const PART: usize = 16;
-
-/// The same moves in plain loops.
-fn plain_moves(image: &mut [u8], work: &mut [u8], moves: &[(usize, usize, Hash)]) -> bool {
-    for (from, to, hash) in moves {
-        for k in 0..PART {
-            work[k * BLOCK..(k + 1) * BLOCK].copy_from_slice(&image[(from + k) * BLOCK..(from + k + 1) * BLOCK]);
-        }
-        if digest(&work[..PART * BLOCK]) != *hash {
-            return false;
-        }
-        for k in 0..PART {
-            image[(to + k) * BLOCK..(to + k + 1) * BLOCK].copy_from_slice(&work[k * BLOCK..(k + 1) * BLOCK]);
-        }
-    }
-    true
-}
 
 fn moves(on: &dyn Updater) {
     let blocks = 4_096;
@@ -118,31 +141,26 @@ fn moves(on: &dyn Updater) {
     let mut rng = Rng::new(3);
     let mut image = start.clone();
     let mut list = "3\n0\n0\n0\n".to_string();
-    let mut moves = Vec::new();
     for _ in 0..MOVES {
         let (from, to) = (rng.below(blocks - PART), rng.below(blocks - PART));
         let hash = digest(&image[from * BLOCK..(from + PART) * BLOCK]);
         image.copy_within(from * BLOCK..(from + PART) * BLOCK, to * BLOCK);
         list += &format!("move {} 2,{to},{} {PART} 2,{from},{}\n", hash_text(&hash), to + PART, from + PART);
-        moves.push((from, to, hash));
     }
+    // Each side opens the list and runs it, on an image and a work area of its own.
     let mut ours_image = start.clone();
     let mut plain_image = start.clone();
     let mut work = vec![0u8; PART * BLOCK];
     let mut plain_work = work.clone();
-    let ours = || {
-        ours_image.copy_from_slice(&start);
+    let run = |on: &dyn Updater, image: &mut Vec<u8>, work: &mut Vec<u8>| {
+        image.copy_from_slice(&start);
         timed(|| {
-            let state = on.open(list.as_bytes(), ours_image.len(), 0, work.len());
-            let answer = on.call(list.as_bytes(), &mut ours_image, &mut [], &mut work, &[], state);
+            let state = on.open(list.as_bytes(), image.len(), 0, work.len());
+            let answer = on.call(list.as_bytes(), image, &mut [], work, &[], state);
             assert_eq!(answer.outcome, DONE);
         })
     };
-    let plain = || {
-        plain_image.copy_from_slice(&start);
-        timed(|| assert!(plain_moves(&mut plain_image, &mut plain_work, &moves)))
-    };
-    let times = medians(ours, plain);
+    let times = turns(|| run(on, &mut ours_image, &mut work), || run(&Reference, &mut plain_image, &mut plain_work));
     assert!(ours_image == plain_image && ours_image == image, "the images differ");
     line("2,000 moves of 16 blocks, opened and run", times, MOVES * PART * BLOCK);
 }
@@ -160,16 +178,15 @@ fn fill_list(header: &str, mut next: impl FnMut(usize) -> String) -> Vec<u8> {
     list.into_bytes()
 }
 
+/// An opening that is short is repeated, so that a run takes a millisecond at least.
 fn opening(on: &dyn Updater, name: &str, list: &[u8], lengths: (usize, usize, usize), wanted: usize) {
     let (image, stash, work) = lengths;
-    let (ours, plain) = (on.open(list, image, stash, work), reference::open(list, image, stash, work));
-    assert_eq!(ours, plain);
-    assert_eq!(ours.refusal.number, wanted, "{name} at line {}", ours.refusal.line);
-    let times = medians(
-        || timed(|| keep(on.open(black_box(list), image, stash, work))),
-        || timed(|| keep(reference::open(black_box(list), image, stash, work))),
-    );
-    line(&format!("open, {name}"), times, if wanted == 0 { list.len() } else { 0 });
+    let state = on.open(list, image, stash, work);
+    assert_eq!(state, Reference.open(list, image, stash, work));
+    assert_eq!(state.refusal.number, wanted, "{name} at line {}", state.refusal.line);
+    let once = |on: &dyn Updater, times: u32| timed(|| (0..times).for_each(|_| keep(on.open(black_box(list), image, stash, work)))) / times;
+    let times = (1_000_000 / once(&Reference, 1).as_nanos().max(1) as u32).max(1);
+    line(&format!("open, {name}"), turns(|| once(on, times), || once(&Reference, times)), if wanted == 0 { list.len() } else { 0 });
 }
 
 fn openings(on: &dyn Updater) {
@@ -206,7 +223,13 @@ fn openings(on: &dyn Updater) {
     let ranges = format!("3\n0\n0\n0\nzero 2000000{}\n", ",0,0".repeat(1_000_000));
     opening(on, "one line of a million ranges", ranges.as_bytes(), areas, 0);
     let lines = format!("3\n0\n0\n0\n{}", "new 2,0,0\n".repeat(400_000));
-    opening(on, "400,000 lines", lines.as_bytes(), areas, 0);
+    opening(on, "400,000 lines of ten bytes", lines.as_bytes(), areas, 0);
+    let names: Vec<String> = (0..1_000).map(name).collect();
+    let hashes = fill_list("3\n0\n1\n0\n", |k| {
+        let h = &names[k % names.len()];
+        format!("stash {h} 2,0,0\nfree {h}\n")
+    });
+    opening(on, "a list full of hashes", &hashes, areas, 0);
 
     let h = name(0);
     let wide = fill_list(&format!("3\n0\n1\n1\nstash {h} 2,0,1\n"), |_| format!("move {h} 2,0,2 2 2,0,1 2,0,4294967295 {h}:2,0,4294967295\n"));
@@ -251,7 +274,7 @@ fn new_data(on: &dyn Updater) {
                     }
                 })
             };
-            let times = medians(|| run(on, &mut image), || run(&Reference, &mut plain_image));
+            let times = turns(|| run(on, &mut image), || run(&Reference, &mut plain_image));
             assert!(image == plain_image && image[..bytes] == data[..]);
             line(&format!("new, pieces of {size}{name}"), times, bytes);
         }

@@ -1,10 +1,14 @@
 //! Compares the proved library with the reference on seeded cases.
 //! usage: differential [--cases N] [--seed S] [--first K] [--self] [--out FOLDER]
-//! --self takes the slow model in the library's place. A failing case is written whole to FOLDER (default: here).
+//! --self takes the slow model in the library's place. A failing case is written whole to FOLDER (default: here). In a run of 5,000
+//! cases or more it is a failure too when something of the coverage never occurred.
 
 use outside::compare::Checker;
 use outside::{library, Model, Updater};
 use std::time::{Instant, SystemTime, UNIX_EPOCH};
+
+/// So many cases have everything, whatever the seed: what is rarest occurs some fifteen times.
+const ENOUGH: u64 = 5_000;
 
 fn main() {
     let mut cases = 10_000u64;
@@ -51,8 +55,12 @@ fn main() {
     }
     print!("{}", checker.coverage.report());
     println!("{:.1} s", start.elapsed().as_secs_f64());
+    let missing = if cases >= ENOUGH { checker.coverage.missing() } else { Vec::new() };
+    if !missing.is_empty() {
+        println!("never occurred: {}", missing.join("; "));
+    }
     println!("{} passed, {failed} failed", cases - failed);
-    std::process::exit((failed > 0) as i32);
+    std::process::exit((failed > 0 || !missing.is_empty()) as i32);
 }
 
 fn usage() -> ! {

@@ -1,6 +1,6 @@
 -- `muongrabi::muongrabi_call` meets its contract: what the call gives back, as numbers. Assumes nothing.
 use mathlib.Core.Path.{ap, _∙_}
-use Rattle.muongrabi.specs.Answers.{answerOf}
+use Rattle.muongrabi.specs.Answers.{answeredOf, answered}
 use borrow.Author.Needs.{needs}
 use Rattle.muongrabi.proofs.muongrabi_call.Statement.{statement}
 use Rattle.muongrabi.proofs.muongrabi_call.Tie as tie
@@ -21,7 +21,8 @@ same-length-3 : tie.Need-same-length-3
 same-length-3 c = search needs
 
 returns : tie.Need-returns
-returns c = (c .to-answer .ensures ∙ ap answerOf (c .before .before .before .before .before .before .before .call .ensures .0), c .before .before .before .before .before .before .before .call .ensures .1)
+returns c =
+    ap (answeredOf _) (c .to-answer .ensures) ∙ ap answered (c .before .before .before .before .before .before .before .call .ensures)
 
 pub muongrabi-call-spec : {M : Type 1} → statement M
 muongrabi-call-spec =

@@ -1,5 +1,4 @@
 -- `muongrabi::to_answer` meets its contract: each outcome by its numbers. Assumes nothing.
-use mathlib.Core.Path.{_≡_}
 use borrow.Author.Needs.{needs}
 use Rattle.muongrabi.proofs.to_answer.Statement.{statement}
 use Rattle.muongrabi.proofs.to_answer.Tie as tie

@@ -17,11 +17,11 @@ enum-told-2 c = search needs
 
 returns : tie.Need-returns
 unfolding freeRefusal
-returns c = rw (find-held _ _ (sym (c .before .before .find-stash .ensures) ∙ c .enum-told .given .1) .1)
+returns c sizes = rw (find-held _ _ (sym (c .before .before .find-stash .ensures sizes) ∙ c .enum-told .given .1) .1)
 
 returns-2 : tie.Need-returns-2
 unfolding freeRefusal
-returns-2 c = rw (find-nothing _ _ (sym (c .before .before .find-stash .ensures) ∙ c .enum-told2 .given .1))
+returns-2 c sizes = rw (find-nothing _ _ (sym (c .before .before .find-stash .ensures sizes) ∙ c .enum-told2 .given .1))
 
 pub check-free-spec : {M : Type 1} → statement M
 check-free-spec = tie.close (tie.spec find-stash-requires enum-told enum-told-2 returns returns-2)

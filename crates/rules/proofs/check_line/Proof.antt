@@ -5,16 +5,16 @@ use mathlib.Core.List.{List}
 use Rattle.state.specs.Stashes.{Stash}
 use Rattle.command.specs.Commands.{commandOf}
 use Rattle.command.specs.declared.Line.{Line}
-use Rattle.rules.specs.declared.Limits.{Limits}
+use Rattle.rules.specs.declared.Terms.{Terms}
 use Rattle.rules.specs.Rules.{refusalFor, refusalOf, checkedOf}
 use borrow.Author.Needs.{needs}
 use Rattle.rules.proofs.check_line.Statement.{statement}
 use Rattle.rules.proofs.check_line.Tie as tie
 
-checked : (l : List ℕ) (limits : Limits) (held : List Stash) {line : Line} {refusal : ℕ} → line ≡ commandOf l →
-    refusal ≡ refusalFor l limits held (line .hash) (line .command) → record { line = line; refusal = refusal } ≡ checkedOf l limits held
+checked : (l : List ℕ) (terms : Terms) (held : List Stash) {line : Line} {refusal : ℕ} → line ≡ commandOf l →
+    refusal ≡ refusalFor l terms held (line .hash) (line .command) → record { line = line; refusal = refusal } ≡ checkedOf l terms held
 unfolding refusalOf checkedOf
-checked l limits held {line} e f = rw f (ap (λ (k : Line). record { line = k; refusal = refusalFor l limits held (k .hash) (k .command) }) e)
+checked l terms held {line} e f = rw f (ap (λ (k : Line). record { line = k; refusal = refusalFor l terms held (k .hash) (k .command) }) e)
 
 read-command-requires : tie.Need-read-command-requires
 read-command-requires c κs = search needs

@@ -4,7 +4,7 @@ use mathlib.Core.Path.{_≡_, refl, sym, ap, _∙_}
 use mathlib.Core.List.{List}
 use lib.ListN.{length, take, drop, length-drop}
 use lib.Seq.{take-all}
-use Rattle.sha1.specs.declared.State.{State}
+use Rattle.sha1.specs.declared.HashValue.{HashValue}
 use Rattle.sha1.specs.Sha1.{initial, hash, padded, output, sha1-is}
 use Rattle.sha1.proofs.PaddingLaws.{hash-padded}
 use native.Mathlib.Omega.{arith}
@@ -40,8 +40,8 @@ returns c =
     let all : take (length m - at) (drop at m) ≡ drop at m = take-all (length m - at) (drop at m) (omega (arith, length-drop at m)) in
     c .close .ensures
     ∙ ap (λ (r : List ℕ). output (hash (c .before .before .hash .result) (padded r (length m)))) all
-    ∙ ap (λ (h : State). output (hash h (padded (drop at m) (length m))))
-    (c .before .before .hash .ensures ∙ ap (λ (h : State). hash h m) (c .before .before .before .initial .ensures))
+    ∙ ap (λ (h : HashValue). output (hash h (padded (drop at m) (length m))))
+    (c .before .before .hash .ensures ∙ ap (λ (h : HashValue). hash h m) (c .before .before .before .initial .ensures))
     ∙ ap output (sym (hash-padded initial m (length m) at refl))
     ∙ sym (sha1-is m)
 

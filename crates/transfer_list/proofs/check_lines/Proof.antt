@@ -1,4 +1,5 @@
--- `check_lines` meets its contract: at each line, what is left of the lines gives the same refusal as all of them.
+-- `check_lines` meets its contract. The loop's invariant: what is left of the lines, with what is held here and what is counted so far,
+-- gives the same refusal as all of them. The measure is what is left of the text.
 -- Assumes nothing.
 use mathlib.Core.Path.{_≡_, refl, sym, ap, _∙_}
 use mathlib.Core.List.{List, []}
@@ -6,25 +7,28 @@ use Prim.Native.Nat.{ℕ, suc, _+_, _-_, _≤_, _<_}
 use native.Mathlib.Omega.{arith}
 use borrow.Author.Needs.{needs}
 use borrow.Author.Tests.{eq-eqb, ne-eqb}
-use lib.ListN.{length}
+use lib.ListN.{length, length-replicate}
+use Rattle.text.specs.Hash.{hashBytes}
 use Rattle.text.specs.Line.{lineAt}
 use Rattle.text.proofs.LineLaws.{line-some, line-within}
-use Rattle.state.specs.Limits.{mostStashes}
-use Rattle.state.specs.Refusals.{none, newTotal}
-use Rattle.state.specs.Stashes.{held}
-use Rattle.state.specs.Sums.{bounded}
-use Rattle.state.specs.declared.Lengths.{Lengths}
+use Rattle.state.specs.Limits.{mostStashes, tableBytes}
+use Rattle.state.specs.Refusals.{none, totalDiffers}
+use Rattle.state.specs.Stashes.{Table, Whole, tableAt, emptyTable, heldIn}
+use Rattle.state.specs.States.{refusing, noRefusal}
+use Rattle.state.specs.Sums.{bound, bounded}
 use Rattle.state.specs.declared.Refusal.{Refusal}
-use Rattle.state.specs.declared.State.{State}
-use Rattle.state.proofs.StashLaws.{length-held}
+use Rattle.state.proofs.TableLaws.{none-held}
 use Rattle.command.specs.Commands.{commandOf}
+use Rattle.command.proofs.CommandLaws.{command-hash}
+use Rattle.rules.specs.Held.{heldAfter, tableAfter}
 use Rattle.rules.specs.Rules.{refusalOf, checkedOf}
 use Rattle.rules.specs.declared.Checked.{Checked}
-use Rattle.rules.specs.declared.Limits.{Limits}
-use Rattle.transfer_list.specs.Header.{refusal, noRefusal}
-use Rattle.transfer_list.specs.Opening.{countedBlocks, heldAfter, totalRefusal, linesRefusal, firstLine, stateAt}
+use Rattle.rules.specs.declared.Terms.{Terms}
+use Rattle.rules.proofs.HeldLaws.{held-after, table-whole}
+use Rattle.transfer_list.specs.Header.{firstLine}
+use Rattle.transfer_list.specs.Opening.{countedBlocks, totalRefusal, linesRefusal}
 use Rattle.transfer_list.specs.declared.header.Header.{Header}
-use Rattle.transfer_list.proofs.OpeningLaws.{none-held, after-fits, lines-end, lines-refused, lines-next}
+use Rattle.transfer_list.proofs.OpeningLaws.{lines-end, lines-refused, lines-go-on}
 use Rattle.transfer_list.proofs.check_lines.Statement.{statement}
 use Rattle.transfer_list.proofs.check_lines.Tie as tie
 
@@ -32,38 +36,39 @@ use Rattle.transfer_list.proofs.check_lines.Tie as tie
 length-is : (list : List ℕ) {at : ℕ} {l : List ℕ} → at < length list → l ≡ lineAt list at → (0 < length l) × (at + length l ≤ length list)
 length-is list {at} w e = rw e (line-some list at w, line-within list at w)
 
--- n is more than the lines left; the blocks of all `new` targets so far are counted up to a bound
-record Checking (list : List ℕ) (limits : Limits) (h : Header) (s : State) (line at fresh : ℕ) : Type 0 where
+-- the refusal of all the lines
+abbrev whole : List ℕ → Terms → Header → Refusal
+whole list terms h = linesRefusal (suc (length list)) list terms h firstLine (h .first) [] 0
+
+-- n is more than the lines left; what line 2 counts is summed up to a bound
+record Checking (list : List ℕ) (terms : Terms) (h : Header) (t : Table) (line at counted : ℕ) : Type 0 where
   n : ℕ
   total : ℕ
   enough : length list < n + at
-  counted : fresh ≡ bounded total
-  count : s .count ≤ mostStashes
+  sum : counted ≡ bounded total
+  table : Whole t
   lines : line ≤ at + firstLine
-  same : linesRefusal n list limits h line at (held s) total
-      ≡ linesRefusal (suc (length list)) list limits h firstLine (h .first) [] 0
+  same : linesRefusal n list terms h line at (heldIn t) total ≡ whole list terms h
 
-module _ {list : List ℕ} {limits : Limits} {h : Header} {s : State} {line at fresh : ℕ} (v : Checking list limits h s line at fresh) where
+module _ {list : List ℕ} {terms : Terms} {h : Header} {t : Table} {line at counted : ℕ} (v : Checking list terms h t line at counted) where
   -- 15
-  total-differs : length list ≤ at → h .fresh < 4294967296 → (fresh ≡ h .fresh → ⊥) →
-      refusal newTotal 2 ≡ linesRefusal (suc (length list)) list limits h firstLine (h .first) [] 0
-  unfolding totalRefusal
-  total-differs l w e =
-      sym (rw (ne-eqb (v .total) (h .fresh) (λ q. e (omega (arith, v .counted)))) at (lines-end list limits h line at (held s) (v .total) (v .n) l))
-      ∙ v .same
+  module _ (l : length list ≤ at) (w : h .total < bound) where
+    ended : totalRefusal h (v .total) ≡ whole list terms h
+    ended = sym (lines-end (v .n) list terms h line at (heldIn t) (v .total) l) ∙ v .same
 
-  none-refused : length list ≤ at → h .fresh < 4294967296 → fresh ≡ h .fresh →
-      noRefusal ≡ linesRefusal (suc (length list)) list limits h firstLine (h .first) [] 0
-  unfolding totalRefusal
-  none-refused l w e =
-      sym (rw (eq-eqb (v .total) (h .fresh) (omega (arith, v .counted))) at (lines-end list limits h line at (held s) (v .total) (v .n) l))
-      ∙ v .same
+    total-differs : (counted ≡ h .total → ⊥) → refusing totalDiffers 2 ≡ whole list terms h
+    unfolding totalRefusal
+    total-differs e = rw (ne-eqb (v .total) (h .total) (λ q. e (omega (arith, v .sum)))) at ended
 
-  module _ {l : List ℕ} {k : Checked} (w : at < length list) (e : l ≡ lineAt list at) (f : k ≡ checkedOf l limits (held s)) where
+    none-refused : counted ≡ h .total → noRefusal ≡ whole list terms h
+    unfolding totalRefusal
+    none-refused e = rw (eq-eqb (v .total) (h .total) (omega (arith, v .sum))) at ended
+
+  module _ {l : List ℕ} {k : Checked} (w : at < length list) (e : l ≡ lineAt list at) (f : k ≡ checkedOf l terms (heldIn t)) where
     left : 0 < v .n
     left = omega (arith, v .enough)
 
-    number-is : k .refusal ≡ refusalOf (lineAt list at) limits (held s)
+    number-is : k .refusal ≡ refusalOf (lineAt list at) terms (heldIn t)
     unfolding checkedOf
     number-is = ap (λ (c : Checked). c .refusal) f ∙ rw e
 
@@ -71,65 +76,66 @@ module _ {list : List ℕ} {limits : Limits} {h : Header} {s : State} {line at f
     unfolding checkedOf
     line-is = ap (λ (c : Checked). c .line) f ∙ rw e
 
-    line-refused : (k .refusal ≡ none → ⊥) →
-        refusal (k .refusal) line ≡ linesRefusal (suc (length list)) list limits h firstLine (h .first) [] 0
+    line-refused : (k .refusal ≡ none → ⊥) → refusing (k .refusal) line ≡ whole list terms h
     line-refused r =
-        rw number-is (sym (lines-refused list limits h line at (held s) (v .total) (v .n) left w (λ q. r (number-is ∙ q))) ∙ v .same)
+        rw number-is (sym (lines-refused (v .n) list terms h line at (heldIn t) (v .total) left w (λ q. r (number-is ∙ q))) ∙ v .same)
 
-    module _ (z : k .refusal ≡ none) where
-      passes : refusalOf (lineAt list at) limits (held s) ≡ none
+    module _ (most : terms .stashes ≤ mostStashes) (z : k .refusal ≡ none) where
+      passes : refusalOf (lineAt list at) terms (heldIn t) ≡ none
       passes = sym number-is ∙ z
 
-      -- there is room for a stash
-      room : limits .stashes ≤ mostStashes →
-          (s .count ≤ mostStashes) × (length (heldAfter (held s) (k .line .hash) (k .line .command)) ≤ mostStashes)
-      unfolding refusalOf
-      room m = (
-        v .count,
-        rw line-is
-            (after-fits (lineAt list at) limits (held s) (commandOf (lineAt list at) .hash) (commandOf (lineAt list at) .command) passes m
-            (omega (arith, length-held s))),
-      )
+      hash-size : length (k .line .hash) ≡ hashBytes
+      hash-size = rw line-is (command-hash (lineAt list at))
 
-      checking-next : {t : State} {n m : ℕ} → (t .count ≤ mostStashes) × (held t ≡ heldAfter (held s) (k .line .hash) (k .line .command)) →
-          n ≡ countedBlocks (k .line .command) → m ≡ bounded (fresh + n) → Checking list limits h t (line + 1) (at + length l) m
-      checking-next {t} {n} {m} a b c =
+      held-next : heldIn (tableAfter t (k .line .hash) (k .line .command)) ≡ heldAfter (heldIn t) (k .line .hash) (k .line .command)
+      unfolding refusalOf
+      held-next =
+          held-after (lineAt list at) terms t (k .line .hash) (v .table) most hash-size (k .line .command)
+          (rw line-is passes)
+
+      checking-next : {u : Table} {n m : ℕ} → u ≡ tableAfter t (k .line .hash) (k .line .command) →
+          n ≡ countedBlocks (k .line .command) → m ≡ bounded (counted + n) → Checking list terms h u (line + 1) (at + length l) m
+      checking-next {u} {n} {m} a b c =
           record {
             n = v .n - 1;
             total = v .total + n;
             enough = omega (arith, v .enough, length-is list w e .0);
-            counted = omega (arith, v .counted);
-            count = a .0;
+            sum = omega (arith, v .sum);
+            table = rw a (table-whole (lineAt list at) terms t (k .line .hash) (v .table) hash-size (k .line .command));
             lines = omega (arith, v .lines, length-is list w e .0);
             same =
-                rw (a .1, b, line-is, e)
-                (sym (lines-next list limits h line at (held s) (v .total) (v .n) left w passes) ∙ v .same);
+                rw (a, held-next, b, line-is, e)
+                (sym (lines-go-on (v .n) list terms h line at (heldIn t) (v .total) left w passes) ∙ v .same);
           }
 
-checking-start : (list : List ℕ) (limits : Limits) (h : Header) (line at : ℕ) (refused : Refusal) (lengths : Lengths) {s : State} →
-    s ≡ stateAt line at refused lengths → Checking list limits h s firstLine (h .first) 0
-checking-start list limits h line at refused lengths e =
+checking-start : (list : List ℕ) (terms : Terms) (h : Header) → Checking list terms h emptyTable firstLine (h .first) 0
+checking-start list terms h =
     record {
       n = suc (length list);
       total = 0;
       enough = omega arith;
-      counted = refl;
-      count = omega (arith, ap (λ (t : State). t .count) e);
+      sum = refl;
+      table = record { hashes = length-replicate {A = ℕ} tableBytes 0; sizes = length-replicate {A = ℕ} mostStashes 0; count = omega arith };
       lines = omega arith;
-      same = rw (e, none-held line at refused lengths);
+      same = rw none-held;
     }
 
 abbrev Inv-loop : tie.InvT-loop
-Inv-loop list limits h s₀ line₀ at₀ fresh₀ s line at fresh = Checking list limits h s line at fresh
+Inv-loop list terms h hashes₀ sizes₀ count₀ line₀ at₀ counted₀ hashes sizes count line at counted =
+    Checking list terms h (tableAt hashes sizes count) line at counted
 
 abbrev μ-loop : tie.MeasureT-loop
-μ-loop list limits h s₀ line₀ at₀ fresh₀ s line at fresh = length list - at
-
-state-at-requires : tie.Need-state-at-requires Inv-loop μ-loop
-state-at-requires c κs = search needs
+μ-loop list terms h hashes₀ sizes₀ count₀ line₀ at₀ counted₀ hashes sizes count line at counted = length list - at
 
 loop-holds : tie.Need-loop-holds Inv-loop μ-loop
-loop-holds c = checking-start _ _ _ _ _ _ _ (c .state-at .ensures)
+loop-holds c = checking-start _ _ _
+
+-- ---- from a place past the check to the line's own
+abbrev read : tie.After-check-line Inv-loop μ-loop → tie.After-line-at Inv-loop μ-loop
+read c = c .before .before .before
+
+abbrev passed : tie.After-bounded-sum Inv-loop μ-loop → tie.After-check-line Inv-loop μ-loop
+passed c = c .before .before .before .before .before .before .before .before
 
 line-at-requires : tie.Need-line-at-requires Inv-loop μ-loop
 line-at-requires c κs = search needs
@@ -138,10 +144,12 @@ check-line-requires : tie.Need-check-line-requires Inv-loop μ-loop
 check-line-requires c κs = search needs
 
 returns : tie.Need-returns Inv-loop μ-loop
-returns c = line-refused (c .before .before .before .before .before .loop .inv) (omega arith) (c .before .before .before .line-at .ensures) (c .before .before .check-line .ensures) (omega arith)
+returns c =
+    let k = c .before .before in
+    line-refused (read k .before .before .loop .inv) (omega arith) (read k .line-at .ensures) (k .check-line .ensures) (omega arith)
 
 hold-after-requires : tie.Need-hold-after-requires Inv-loop μ-loop
-hold-after-requires c κs = room (c .before .before .before .before .before .before .loop .inv) (omega arith) (c .before .before .before .before .line-at .ensures) (c .before .before .before .check-line .ensures) (omega arith) (omega arith)
+hold-after-requires c κs = search needs
 
 counted-blocks-requires : tie.Need-counted-blocks-requires Inv-loop μ-loop
 counted-blocks-requires c κs = search needs
@@ -150,16 +158,19 @@ bounded-sum-requires : tie.Need-bounded-sum-requires Inv-loop μ-loop
 bounded-sum-requires c κs = search needs
 
 add-at : tie.Need-add-at Inv-loop μ-loop
-add-at c = let w = length-is _ (c .before .before .before .before .before .before .before .before .loop-test .taken) (c .before .before .before .before .before .before .before .line-at .ensures) in omega arith
+add-at c = let w = length-is _ (read (passed c) .before .loop-test .taken) (read (passed c) .line-at .ensures) in omega arith
 
 add-line : tie.Need-add-line Inv-loop μ-loop
-add-line c = omega arith
+add-line c = omega (arith, read (passed c) .before .before .loop .inv .lines)
 
 loop-less : tie.Need-loop-less Inv-loop μ-loop
-loop-less c = let w = length-is _ (c .before .before .before .before .before .before .before .before .loop-test .taken) (c .before .before .before .before .before .before .before .line-at .ensures) in omega arith
+loop-less c = let w = length-is _ (read (passed c) .before .loop-test .taken) (read (passed c) .line-at .ensures) in omega arith
 
 loop-again : tie.Need-loop-again Inv-loop μ-loop
-loop-again c = checking-next (c .before .before .before .before .before .before .before .before .before .loop .inv) (omega arith) (c .before .before .before .before .before .before .before .line-at .ensures) (c .before .before .before .before .before .before .check-line .ensures) (omega arith) (c .before .before .hold-after .ensures) (c .before .counted-blocks .ensures) (c .bounded-sum .ensures)
+loop-again c =
+    let k = passed c in
+    checking-next (read k .before .before .loop .inv) (omega arith) (read k .line-at .ensures) (k .check-line .ensures) (omega arith) (omega arith)
+    (c .before .before .hold-after .ensures) (c .before .counted-blocks .ensures) (c .bounded-sum .ensures)
 
 cast-if2 : tie.Need-cast-if2 Inv-loop μ-loop
 cast-if2 c = omega arith
@@ -176,7 +187,6 @@ check-lines-spec =
     (tie.spec
     Inv-loop
     μ-loop
-    state-at-requires
     loop-holds
     line-at-requires
     check-line-requires

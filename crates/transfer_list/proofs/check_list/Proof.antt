@@ -9,11 +9,12 @@ use borrow.Author.Tests.{ne-eqb}
 use lib.ListN.{length}
 use Rattle.state.specs.Limits.{mostListBytes, mostStashes}
 use Rattle.state.specs.Refusals.{none}
+use Rattle.state.specs.States.{noRefusal}
 use Rattle.state.specs.declared.Lengths.{Lengths}
 use Rattle.state.specs.declared.Refusal.{Refusal}
-use Rattle.rules.specs.declared.Limits.{Limits}
-use Rattle.transfer_list.specs.Header.{headerOf, startRefusal, noRefusal}
-use Rattle.transfer_list.specs.Opening.{limitsOf, linesRefusal, firstLine, commandsRefusal, openRefusal}
+use Rattle.rules.specs.declared.Terms.{Terms}
+use Rattle.transfer_list.specs.Header.{firstLine, headerOf, startRefusal}
+use Rattle.transfer_list.specs.Opening.{termsOf, linesRefusal, commandsRefusal, openRefusal}
 use Rattle.transfer_list.specs.declared.header.Header.{Header}
 use Rattle.transfer_list.specs.declared.header.HeaderRead.{HeaderRead}
 use Rattle.transfer_list.specs.declared.header.HeaderRead.the-variants.{Good, Bad}
@@ -35,14 +36,14 @@ module _ (s : List ℕ) (lengths : Lengths) {start : Refusal} (e : start ≡ sta
     unfolding openRefusal commandsRefusal
     no-header g = rw (started, sym f ∙ g)
 
-    module _ {h : Header} {limits : Limits} (g : read ≡ Good h) (k : limits ≡ limitsOf lengths h) where
-      lines-ready : (length s ≤ mostListBytes) × (limits .stashes ≤ mostStashes)
+    module _ {h : Header} {terms : Terms} (g : read ≡ Good h) (k : terms ≡ termsOf lengths h) where
+      lines-ready : (length s ≤ mostListBytes) × (terms .stashes ≤ mostStashes)
       lines-ready =
           let o = start-none s lengths started in
           let q = same-header (sym (o .read) ∙ sym f ∙ g) in
-          (o .list, omega (arith, o .stashes, ap (λ (x : Header). x .stashes) q, ap (λ (l : Limits). l .stashes) k))
+          (o .list, omega (arith, o .stashes, ap (λ (x : Header). x .stashes) q, ap (λ (l : Terms). l .stashes) k))
 
-      lines-refused : {r : Refusal} → r ≡ linesRefusal (suc (length s)) s limits h firstLine (h .first) [] 0 → r ≡ openRefusal s lengths
+      lines-refused : {r : Refusal} → r ≡ linesRefusal (suc (length s)) s terms h firstLine (h .first) [] 0 → r ≡ openRefusal s lengths
       unfolding openRefusal commandsRefusal
       lines-refused l = rw (started, sym f ∙ g) (l ∙ rw k)
 
@@ -61,17 +62,17 @@ enum-told c = search needs
 enum-known-h : tie.Need-enum-known-h
 enum-known-h c = search needs
 
-limits-of-requires : tie.Need-limits-of-requires
-limits-of-requires c κs = search needs
+terms-of-requires : tie.Need-terms-of-requires
+terms-of-requires c κs = search needs
 
 check-lines-requires : tie.Need-check-lines-requires
-check-lines-requires c κs = lines-ready _ _ (c .before .before .before .before .before .before .before .check-start .ensures) (omega arith) (c .before .before .before .before .read-header .ensures) (c .before .before .h .given .1) (c .limits-of .ensures)
+check-lines-requires c κs = lines-ready _ _ (c .before .before .before .before .before .before .before .check-start .ensures) (omega arith) (c .before .before .before .before .read-header .ensures) (c .before .before .h .given .1) (c .terms-of .ensures)
 
 returns-2 : tie.Need-returns-2
 returns-2 c = no-header _ _ (c .before .before .before .before .before .check-start .ensures) (omega arith) (c .before .before .read-header .ensures) (c .enum-told .given .1)
 
 returns-3 : tie.Need-returns-3
-returns-3 c = lines-refused _ _ (c .before .before .before .before .before .before .before .before .check-start .ensures) (omega arith) (c .before .before .before .before .before .read-header .ensures) (c .before .before .before .h .given .1) (c .before .limits-of .ensures) (c .check-lines .ensures)
+returns-3 c = lines-refused _ _ (c .before .before .before .before .before .before .before .before .check-start .ensures) (omega arith) (c .before .before .before .before .before .read-header .ensures) (c .before .before .before .h .given .1) (c .before .terms-of .ensures) (c .check-lines .ensures)
 
 pub check-list-spec : {M : Type 1} → statement M
 check-list-spec =
@@ -82,7 +83,7 @@ check-list-spec =
     read-header-requires
     enum-told
     enum-known-h
-    limits-of-requires
+    terms-of-requires
     check-lines-requires
     returns-2
     returns-3)

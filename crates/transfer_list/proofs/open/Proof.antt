@@ -7,11 +7,12 @@ use native.Mathlib.Omega.{arith}
 use borrow.Author.Needs.{needs}
 use borrow.Author.Tests.{ne-eqb}
 use Rattle.state.specs.Refusals.{none}
+use Rattle.state.specs.States.{noRefusal, stateAt}
 use Rattle.state.specs.declared.Lengths.{Lengths}
 use Rattle.state.specs.declared.Refusal.{Refusal}
 use Rattle.state.specs.declared.State.{State}
-use Rattle.transfer_list.specs.Header.{headerOf, noRefusal}
-use Rattle.transfer_list.specs.Opening.{openRefusal, firstLine, firstAt, stateAt, acceptedState, refusedState, openState}
+use Rattle.transfer_list.specs.Header.{firstLine, headerOf}
+use Rattle.transfer_list.specs.Opening.{openRefusal, firstAt, acceptedState, refusedState, openState}
 use Rattle.transfer_list.specs.declared.header.Header.{Header}
 use Rattle.transfer_list.specs.declared.header.HeaderRead.{HeaderRead}
 use Rattle.transfer_list.specs.declared.header.HeaderRead.the-variants.{Good, Bad}

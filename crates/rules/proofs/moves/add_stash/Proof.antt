@@ -8,13 +8,14 @@ use lib.Dec.{eqb}
 use borrow.Author.Needs.{needs}
 use borrow.Author.Tests.{eq-eqb, ne-eqb}
 use Rattle.text.specs.Choice.{either, no}
-use Rattle.state.specs.Stashes.{Stash, held, isHeld}
+use denote.Ref.{now}
+use Rattle.state.specs.Stashes.{Stash, tableAt, heldIn, isHeld}
 use Rattle.state.specs.Sums.{bounded}
 use Rattle.state.proofs.StashLaws.{find-held, find-nothing}
 use Rattle.rules.specs.declared.moves.Sums.{Sums}
 use Rattle.rules.specs.Move.{sizeFound, stashBlocks}
 use Rattle.rules.specs.Sums.{sumsWith}
-use Rattle.rules.proofs.ChoiceLaws.{either-or-true, either-or-false}
+use Rattle.text.proofs.ChoiceLaws.{either-or-true, either-or-false}
 use Rattle.rules.proofs.moves.add_stash.Statement.{statement}
 use Rattle.rules.proofs.moves.add_stash.Tie as tie
 
@@ -37,12 +38,15 @@ module _ (a : Bool) {d : Bool} {n m places : ℕ} (e : n ≡ m) where
 abbrev entry : tie.Joined1 → tie.Start
 entry c = c .before .before .before .before
 
+abbrev stashes : tie.Start → List Stash
+stashes c = heldIn (tableAt (now (c .args .hashes)) (now (c .args .sizes)) (c .args .count))
+
 differing : (c : tie.Joined1) → (let a = entry c .args in
-    c .if1 .differs ≡ either (a .sums .differs) (no (eqb (stashBlocks (held (a .s)) (a .hash)) (a .places))))
+    c .if1 .differs ≡ either (a .sums .differs) (no (eqb (stashBlocks (stashes (entry c)) (a .hash)) (a .places))))
 unfolding stashBlocks
 differing c =
-    let found = c .before .before .find-stash .ensures in
-    let e = c .before .found-blocks .ensures ∙ ap (sizeFound (held (entry c .args .s))) found in
+    let found = c .before .before .find-stash .ensures (now (entry c .args .sizes)) in
+    let e = c .before .found-blocks .ensures (now (entry c .args .hashes)) ∙ ap (sizeFound (stashes (entry c))) found in
     let d = entry c .args .sums .differs in
     ⊎-elim (λ w. same-size d e (w .0 .taken) (w .1)) (λ w. other-size d e (w .0 .left) (w .1)) (c .if1 .came)
 
@@ -63,15 +67,17 @@ enum-told-2 c = search needs
 
 returns : tie.Need-returns
 returns c =
-    let found = sym (c .before .before .before .before .find-stash .ensures) ∙ c .enum-told .given .1 in
-    added _ _ _ _ (rw (find-nothing _ _ found) (either-or-true (entry (c .before .before) .args .sums .missing)))
+    let a = entry (c .before .before) in
+    let found = sym (c .before .before .before .before .find-stash .ensures (now (a .args .sizes))) ∙ c .enum-told .given .1 in
+    added _ _ _ _ (rw (find-nothing (stashes a) _ found) (either-or-true (a .args .sums .missing)))
     (differing (c .before .before))
     (c .before .before .before .before .before .bounded-sum .ensures)
 
 returns-2 : tie.Need-returns-2
 returns-2 c =
-    let found = sym (c .before .before .before .before .find-stash .ensures) ∙ c .enum-told2 .given .1 in
-    added _ _ _ _ (rw (find-held _ _ found .1) (either-or-false _))
+    let a = entry (c .before .before) in
+    let found = sym (c .before .before .before .before .find-stash .ensures (now (a .args .sizes))) ∙ c .enum-told2 .given .1 in
+    added _ _ _ _ (rw (find-held (stashes a) _ found .1) (either-or-false _))
     (differing (c .before .before))
     (c .before .before .before .before .before .bounded-sum .ensures)
 

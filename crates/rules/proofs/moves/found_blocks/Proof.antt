@@ -13,10 +13,10 @@ enum-told : tie.Need-enum-told
 enum-told c = search needs
 
 returns : tie.Need-returns
-returns c = rw (c .before .before .found .given .1) (c .stash-blocks .ensures)
+returns c hashes = rw (c .before .before .found .given .1) (c .stash-blocks .ensures hashes)
 
 returns-2 : tie.Need-returns-2
-returns-2 c = search needs
+returns-2 c hashes = search needs
 
 pub found-blocks-spec : {M : Type 1} → statement M
 found-blocks-spec =

@@ -1,5 +1,5 @@
 -- `rules::moves::source_sums` meets its contract. Assumes nothing.
-use Rattle.rules.specs.Move.{namedBy, someMissing, someDiffer, placesNamed}
+use Rattle.rules.specs.Move.{usesBy, someMissing, someDiffer, placesNamed}
 use Rattle.rules.specs.Sums.{sumsOf}
 use borrow.Author.Needs.{needs}
 use Rattle.rules.proofs.moves.source_sums.Statement.{statement}
@@ -21,15 +21,15 @@ sum-stashes-requires-2 : tie.Need-sum-stashes-requires-2
 sum-stashes-requires-2 c κs = search needs
 
 returns : tie.Need-returns
-unfolding sumsOf namedBy someMissing someDiffer placesNamed
+unfolding sumsOf usesBy someMissing someDiffer placesNamed
 returns c = rw (c .enum-told .given .1)
 
 returns-2 : tie.Need-returns-2
-unfolding namedBy
+unfolding usesBy
 returns-2 c = rw (c .before .before .source .given .1) (c .sum-stashes .ensures)
 
 returns-3 : tie.Need-returns-3
-unfolding namedBy
+unfolding usesBy
 returns-3 c = rw (c .before .before .source2 .given .1) (c .sum-stashes2 .ensures)
 
 pub source-sums-spec : {M : Type 1} → statement M

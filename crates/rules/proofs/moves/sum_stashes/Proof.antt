@@ -8,10 +8,10 @@ use mathlib.Core.List.{List, [], _∷_}
 use native.Mathlib.Omega.{arith}
 use lib.ListN.{length}
 use Rattle.text.specs.Choice.{either}
-use Rattle.text.specs.declared.ranges.RangeSet.{RangeSet}
-use Rattle.state.specs.Stashes.{Stash, held}
-use Rattle.state.specs.Sums.{bounded}
-use Rattle.command.specs.Parts.{Named, partAt, namedAt}
+use Rattle.ranges.specs.declared.RangeSet.{RangeSet}
+use Rattle.state.specs.Stashes.{Stash, tableAt, heldIn}
+use Rattle.state.specs.Sums.{bound, bounded}
+use Rattle.command.specs.Parts.{StashUse, partAt, usesAt}
 use Rattle.command.specs.declared.parts.Part.{Part}
 use Rattle.command.specs.declared.parts.PartRead.the-variants as read
 use Rattle.command.proofs.PartLaws.{NamedFrom, named-start, named-more, named-last, named-bad, part-next, part-read}
@@ -19,12 +19,12 @@ use Rattle.rules.specs.declared.moves.Sums.{Sums}
 use Rattle.rules.specs.Move.{someMissing, someDiffer, placesNamed}
 use Rattle.rules.specs.Sums.{sumsOf, sumsWith}
 use borrow.Author.Needs.{needs}
-use Rattle.rules.proofs.ChoiceLaws.{either-or-false, either-either}
+use Rattle.text.proofs.ChoiceLaws.{either-or-false, either-either}
 use Rattle.rules.proofs.moves.sum_stashes.Statement.{statement}
 use Rattle.rules.proofs.moves.sum_stashes.Tie as tie
 
 -- the sums with the stashes of some Ps more
-sumsFrom : List Stash → Sums → List Named → Sums
+sumsFrom : List Stash → Sums → List StashUse → Sums
 sumsFrom held sums [] = sums
 sumsFrom held sums (p ∷ ps) = sumsFrom held (sumsWith sums held (p .hash) (p .places .blocks)) ps
 
@@ -35,7 +35,7 @@ sums-eq : {m m′ d d′ : Bool} {p p′ : ℕ} → m ≡ m′ → d ≡ d′ �
     _≡_ {A = Sums} (record { missing = m; differs = d; places = p }) (record { missing = m′; differs = d′; places = p′ })
 sums-eq e f g = rw (e, f, g)
 
-sums-from : (held : List Stash) (sums : Sums) (ps : List Named) → sums .places ≤ 4294967296 →
+sums-from : (held : List Stash) (sums : Sums) (ps : List StashUse) → sums .places ≤ bound →
     sumsFrom held sums ps
     ≡ record {
       missing = either (sums .missing) (someMissing held ps);
@@ -49,27 +49,27 @@ sums-from held sums (p ∷ ps) h =
     ∙ sums-eq (either-either (sums .missing) _ _) (either-either (sums .differs) _ _) (omega arith)
 
 record Summing (l : List ℕ) (first : ℕ) (held : List Stash) (sums : Sums) (at : ℕ) : Type 0 where
-  left : List Named
+  left : List StashUse
   text : NamedFrom l at left
-  same : sumsFrom held sums left ≡ sumsOf held (namedAt l first)
+  same : sumsFrom held sums left ≡ sumsOf held (usesAt l first)
 
 summing-start : (l : List ℕ) (first : ℕ) (held : List Stash) → Summing l first held none first
 unfolding sumsOf
 summing-start l first held =
     record {
-      left = namedAt l first;
+      left = usesAt l first;
       text = named-start l first;
-      same = sums-from held none (namedAt l first) (omega arith) ∙ sums-eq refl refl (omega arith);
+      same = sums-from held none (usesAt l first) (omega arith) ∙ sums-eq refl refl (omega arith);
     }
 
 module _ {l : List ℕ} {first : ℕ} {held : List Stash} {sums : Sums} {at : ℕ} {p : Part} (k : Summing l first held sums at)
     (is : p ≡ partAt l at) where
-  summing-bad : {q : ℕ} → p .read ≡ read.Bad q → sums ≡ sumsOf held (namedAt l first)
+  summing-bad : {q : ℕ} → p .read ≡ read.Bad q → sums ≡ sumsOf held (usesAt l first)
   unfolding sumsFrom
   summing-bad f = sym (ap (sumsFrom held sums) (named-bad (k .text) (part-read l at p is f))) ∙ k .same
 
   summing-last : {places : RangeSet} {next : ℕ} {r : Sums} → p .read ≡ read.Last places next →
-      r ≡ sumsWith sums held (p .hash) (places .blocks) → r ≡ sumsOf held (namedAt l first)
+      r ≡ sumsWith sums held (p .hash) (places .blocks) → r ≡ sumsOf held (usesAt l first)
   unfolding sumsFrom
   summing-last {places} f e =
       e
@@ -97,10 +97,10 @@ module _ {l : List ℕ} {first : ℕ} {held : List Stash} {sums : Sums} {at : �
       )
 
 abbrev Inv-loop : tie.InvT-loop
-Inv-loop l first s sums₀ at₀ sums at = Summing l first (held s) sums at
+Inv-loop l first hashes sizes count sums₀ at₀ sums at = Summing l first (heldIn (tableAt hashes sizes count)) sums at
 
 abbrev μ-loop : tie.MeasureT-loop
-μ-loop l first s sums₀ at₀ sums at = length l - at
+μ-loop l first hashes sizes count sums₀ at₀ sums at = length l - at
 
 loop-holds : tie.Need-loop-holds Inv-loop μ-loop
 loop-holds c = summing-start _ _ _

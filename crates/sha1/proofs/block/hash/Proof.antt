@@ -1,7 +1,7 @@
 -- `sha1::block::hash` meets its contract. The loop has taken in i blocks. Assumes nothing.
 use Prim.Native.Nat.{_-_, _*_, _≤_}
 use mathlib.Core.Path.{_≡_, refl, sym, ap, _∙_}
-use Rattle.sha1.specs.declared.State.{State}
+use Rattle.sha1.specs.declared.HashValue.{HashValue}
 use Rattle.sha1.specs.Sha1 as S
 use Rattle.sha1.proofs.BlockLaws.{blocks-more}
 use native.Mathlib.Omega.{arith}
@@ -37,7 +37,7 @@ loop-again c =
     let a = c .before .before .before .before .args in (
       omega arith,
       c .compress .ensures
-          ∙ ap (λ (g : State). S.compress g (a .s .now) (64 * l .i)) (l .inv .1)
+          ∙ ap (λ (g : HashValue). S.compress g (a .s .now) (64 * l .i)) (l .inv .1)
           ∙ sym (blocks-more (a .h) (a .s .now) (l .i)),
     )
 

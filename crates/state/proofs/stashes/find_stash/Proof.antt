@@ -1,14 +1,16 @@
+-- `find_stash` meets its contract. The loop's invariant: looking on from j finds what looking from the start does.
+-- Assumes nothing.
 use mathlib.Core.Path.{_≡_, refl, sym, ap, _∙_}
 use mathlib.Core.Bool.{true, false}
 use mathlib.Core.List.{List}
-use Prim.Native.Nat.{ℕ, _+_, _-_, _*_, _≤_, _<_}
+use Prim.Native.Nat.{ℕ, _+_, _-_, _≤_, _<_}
 use native.Mathlib.Nat.{zero-add, add-zero}
 use native.Mathlib.Omega.{arith}
-use lib.ListN.{take, drop}
 use Rattle.state.specs.declared.stashes.Found.{Found}
 use Rattle.state.specs.declared.stashes.Found.the-variants.{At, Nothing}
-use Rattle.state.specs.Stashes.{Stash, entries, held, same, shift, findIn}
-use Rattle.state.proofs.StashLaws.{held-entries, entries-next}
+use Rattle.state.specs.Stashes.{Stash, tableAt, entryHash, entries, heldIn, same, shift, findIn}
+use Rattle.state.proofs.EntryLaws.{entries-next, same-part}
+use Rattle.state.proofs.TableLaws.{held-entries}
 use Rattle.state.proofs.stashes.find_stash.Statement.{statement}
 use Rattle.state.proofs.stashes.find_stash.Tie as tie
 
@@ -30,11 +32,11 @@ later-shift k (At j) =
 later-shift k Nothing = refl
 
 module _ (h z hash : List ℕ) (j n : ℕ) (l : j < n) where
-  find-here : same (take 20 (drop (20 * j) h)) hash ≡ true → later j (findIn (entries h z j (n - j)) hash) ≡ At j
+  find-here : same (entryHash h j) hash ≡ true → later j (findIn (entries h z j (n - j)) hash) ≡ At j
   unfolding findIn later
   find-here e = rw (entries-next h z j n l, e, add-zero)
 
-  find-on : same (take 20 (drop (20 * j) h)) hash ≡ false
+  find-on : same (entryHash h j) hash ≡ false
       → later j (findIn (entries h z j (n - j)) hash) ≡ later (j + 1) (findIn (entries h z (j + 1) (n - (j + 1))) hash)
   unfolding findIn
   find-on e = rw (entries-next h z j n l, e) (later-shift j _)
@@ -43,34 +45,52 @@ find-end : (h z hash : List ℕ) (j n : ℕ) → n ≡ 0 → later j (findIn (en
 unfolding findIn later entries
 find-end h z hash j n e = rw e
 
--- Looking on from j finds what looking from the start does.
 abbrev Inv-loop : tie.InvT-loop
-Inv-loop s hash n j₀ j = (j ≤ n) × (findIn (held s) hash ≡ later j (findIn (entries (s .hashes) (s .sizes) j (n - j)) hash))
+Inv-loop hashes count hash table n j₀ j =
+    (j ≤ n) × ((sizes : List ℕ) → findIn (heldIn (tableAt hashes sizes count)) hash ≡ later j (findIn (entries hashes sizes j (n - j)) hash))
 
 abbrev μ-loop : tie.MeasureT-loop
-μ-loop s hash n j₀ j = n - j
+μ-loop hashes count hash table n j₀ j = n - j
 
 held-count-requires : tie.Need-held-count-requires Inv-loop μ-loop
 held-count-requires c κs = tt
 
 loop-holds : tie.Need-loop-holds Inv-loop μ-loop
 loop-holds c =
-    let a = c .before .args in (
+    let a = c .before .before .args in (
       omega arith,
-      ap (λ (xs : List Stash). findIn xs (a .t2)) (held-entries (a .t1) (c .held-count .result) (c .held-count .ensures)) ∙ later-none _,
+      λ sizes.
+          let e = held-entries (tableAt (a .hashes .now) sizes (a .count)) (c .held-count .result) (c .held-count .ensures) in
+          ap (λ (xs : List Stash). findIn xs (a .t3)) e ∙ later-none _,
     )
 
-slice-aggregate-same-at : tie.Need-slice-aggregate-same-at Inv-loop μ-loop
-slice-aggregate-same-at c = omega arith
+mul-from : tie.Need-mul-from Inv-loop μ-loop
+mul-from c = omega arith
 
-same-at-requires : tie.Need-same-at-requires Inv-loop μ-loop
-same-at-requires c κs = omega arith
+add-to : tie.Need-add-to Inv-loop μ-loop
+add-to c = omega arith
+
+sub-same-hash : tie.Need-sub-same-hash Inv-loop μ-loop
+sub-same-hash c = omega arith
+
+part-same-hash-start : tie.Need-part-same-hash-start Inv-loop μ-loop
+part-same-hash-start c = omega arith
+
+part-same-hash-end : tie.Need-part-same-hash-end Inv-loop μ-loop
+part-same-hash-end c = omega arith
+
+slice-aggregate-same-hash : tie.Need-slice-aggregate-same-hash Inv-loop μ-loop
+slice-aggregate-same-hash c = omega arith
+
+same-hash-requires : tie.Need-same-hash-requires Inv-loop μ-loop
+same-hash-requires c κs = tt
 
 returns : tie.Need-returns Inv-loop μ-loop
 returns c =
-    let l = c .before .before .before .before .before .before .before in
-    let s = l .before .before .args .t1 in
-    sym (l .loop .inv .1 ∙ find-here _ (s .sizes) _ _ (l .before .held-count .result) (omega arith) (sym (c .before .same-at .ensures) ∙ c .if1 .taken))
+    let l = c .before .before .before .before .before in
+    let h = l .before .before .before .args .hashes .now in
+    let s = same-part h _ (l .loop .j) (c .before .same-hash .ensures) (c .if1 .taken) in
+    λ sizes. sym (l .loop .inv .1 sizes ∙ find-here h sizes _ _ (l .before .held-count .result) (omega arith) s)
 
 add-j : tie.Need-add-j Inv-loop μ-loop
 add-j c = omega arith
@@ -80,14 +100,13 @@ loop-less c = omega arith
 
 loop-again : tie.Need-loop-again Inv-loop μ-loop
 loop-again c =
-    let l = c .before .before .before .before .before .before .before in
-    let s = l .before .before .args .t1 in (
-      omega arith,
-      l .loop .inv .1 ∙ find-on _ (s .sizes) _ _ (l .before .held-count .result) (omega arith) (sym (c .before .same-at .ensures) ∙ c .if1 .left),
-    )
+    let l = c .before .before .before .before .before in
+    let h = l .before .before .before .args .hashes .now in
+    let s = same-part h _ (l .loop .j) (c .before .same-hash .ensures) (c .if1 .left) in
+    (omega arith, λ sizes. l .loop .inv .1 sizes ∙ find-on h sizes _ _ (l .before .held-count .result) (omega arith) s)
 
 returns-2 : tie.Need-returns-2 Inv-loop μ-loop
-returns-2 c = sym (c .before .loop .inv .1 ∙ find-end _ _ _ _ _ (omega arith))
+returns-2 c = λ sizes. sym (c .before .loop .inv .1 sizes ∙ find-end _ sizes _ _ _ (omega arith))
 
 pub find-stash-spec : {M : Type 1} → statement M
 find-stash-spec =
@@ -97,8 +116,13 @@ find-stash-spec =
     μ-loop
     held-count-requires
     loop-holds
-    slice-aggregate-same-at
-    same-at-requires
+    mul-from
+    add-to
+    sub-same-hash
+    part-same-hash-start
+    part-same-hash-end
+    slice-aggregate-same-hash
+    same-hash-requires
     returns
     add-j
     loop-less

@@ -1,15 +1,22 @@
+-- `release` meets its contract: with no such stash, or a count past the arrays, the table stays as it was; else the younger entries move down.
+-- Assumes nothing.
 use mathlib.Core.Path.{sym}
 use native.Mathlib.Omega.{arith}
 use borrow.Author.Needs.{needs}
-use Rattle.state.proofs.StashLaws.{releasing-none, releasing-past, releasing-one}
+use Rattle.state.specs.Stashes.{tableAt}
+use Rattle.state.proofs.TableLaws.{releasing-none, releasing-past, releasing-one}
 use Rattle.state.proofs.stashes.release.Statement.{statement}
 use Rattle.state.proofs.stashes.release.Tie as tie
 
 returns : tie.Need-returns
-returns c = sym (releasing-none _ _ (omega arith))
+returns c =
+    let a = c .before .args in
+    sym (releasing-none (tableAt (a .hashes .now) (a .sizes .now) (a .count)) (a .j) (omega arith))
 
 returns-2 : tie.Need-returns-2
-returns-2 c = sym (releasing-past _ _ (omega arith) (omega arith))
+returns-2 c =
+    let a = c .before .before .args in
+    sym (releasing-past (tableAt (a .hashes .now) (a .sizes .now) (a .count)) (a .j) (omega arith) (omega arith))
 
 add-left : tie.Need-add-left
 add-left c = search needs
@@ -38,13 +45,14 @@ add-down-words c = search needs
 down-words-requires : tie.Need-down-words-requires
 down-words-requires c κs = search needs
 
-sub-next : tie.Need-sub-next
-sub-next c = search needs
+sub-result : tie.Need-sub-result
+sub-result c = search needs
 
 returns-3 : tie.Need-returns-3
 returns-3 c =
     let a = c .before .before .before .before .before .before .args in
-    rw (c .before .before .down-bytes .ensures, c .down-words .ensures) (sym (releasing-one (a .s) (a .j) (omega arith) (omega arith)))
+    rw (c .before .before .down-bytes .ensures, c .down-words .ensures)
+    (sym (releasing-one (tableAt (a .hashes .now) (a .sizes .now) (a .count)) (a .j) (omega arith) (omega arith)))
 
 pub release-spec : {M : Type 1} → statement M
 release-spec =
@@ -61,5 +69,5 @@ release-spec =
     down-bytes-requires
     add-down-words
     down-words-requires
-    sub-next
+    sub-result
     returns-3)

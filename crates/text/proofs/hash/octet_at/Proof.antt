@@ -1,4 +1,4 @@
--- `octet_at` meets its contract, by the cases of `octetAt`. Each digit that was read is one of the text, so below 16.
+-- `text::hash::octet_at` meets its contract, by the cases of `octetAt`. Each digit that was read is one of the text, so below 16.
 -- Assumes nothing.
 use mathlib.Core.Path.{_≡_, sym, _∙_}
 use Prim.Native.Nat.{_+_}

@@ -1,4 +1,4 @@
--- `read_hash` meets its contract. The loop's invariant: the bytes so far, and those that are left to read, are the hash.
+-- `text::hash::read_hash` meets its contract. The loop's invariant: the bytes so far, and those that are left to read, are the hash.
 -- Assumes nothing.
 use mathlib.Core.Path.{_≡_, refl, sym, ap, ap₂, subst, _∙_}
 use Prim.Native.Nat.{ℕ, zero, suc, _+_, _-_, _≤_, _<_}
@@ -8,9 +8,9 @@ use mathlib.Core.List.{List, [], _∷_, _++_, append-nil}
 use lib.ListN.{length, take, set, length-set}
 use lib.Seq.{take-suc-set, append-snoc, take-all}
 use borrow.Author.Needs.{needs}
-use Rattle.text.specs.declared.mark.Mark.the-variants as mark
+use Rattle.text.specs.declared.expected.Expected.the-variants as expected
 use Rattle.text.specs.declared.hash.Octet.the-variants as octet
-use Rattle.text.specs.Hash.{octetAt, Octets, ok, fault, follow, octetsAt, noHash, hashOf, hashAt}
+use Rattle.text.specs.Hash.{octetAt, Octets, ok, fault, follow, octetsAt, hashBytes, noHash, hashOf, hashAt}
 use Rattle.text.proofs.HashLaws.{octet-inside}
 use Rattle.text.proofs.hash.read_hash.Statement.{statement}
 use Rattle.text.proofs.hash.read_hash.Tie as tie
@@ -49,36 +49,36 @@ module _ (s : List ℕ) (i n : ℕ) (us : List ℕ) where
 
 -- the first k bytes, and those that are left to read, are the hash
 Reading : List ℕ → ℕ → List ℕ → ℕ → ℕ → Type 0
-Reading s at bytes i k = joined (take k bytes) (octetsAt (20 - k) s i) ≡ octetsAt 20 s at
+Reading s at bytes i k = joined (take k bytes) (octetsAt (hashBytes - k) s i) ≡ octetsAt hashBytes s at
 
 reading-start : (s : List ℕ) (at : ℕ) (bytes : List ℕ) → Reading s at bytes at 0
 unfolding Reading
-reading-start s at bytes = joined-none (octetsAt 20 s at)
+reading-start s at bytes = joined-none (octetsAt hashBytes s at)
 
 module _ (s : List ℕ) (at : ℕ) (bytes : List ℕ) (i k : ℕ) (r : Reading s at bytes i k) where
-  reading-bad : k < 20 → {p : ℕ} → octetAt s i ≡ octet.Bad p → hashAt s at ≡ record { read = mark.Bad p; bytes = noHash }
+  reading-bad : k < hashBytes → {p : ℕ} → octetAt s i ≡ octet.Bad p → hashAt s at ≡ record { read = expected.Bad p; bytes = noHash }
   unfolding Reading hashAt hashOf
-  reading-bad h e = ap hashOf (sym r ∙ turn-bad s i (20 - k) (take k bytes) (omega arith) e)
+  reading-bad h e = ap hashOf (sym r ∙ turn-bad s i (hashBytes - k) (take k bytes) (omega arith) e)
 
-  reading-more : k < 20 → length bytes ≡ 20 → {v : ℕ} → octetAt s i ≡ octet.Good v → Reading s at (set bytes k v) (i + 2) (k + 1)
+  reading-more : k < hashBytes → length bytes ≡ hashBytes → {v : ℕ} → octetAt s i ≡ octet.Good v → Reading s at (set bytes k v) (i + 2) (k + 1)
   unfolding Reading
   reading-more h l {v} e =
       ap₂ (λ (us : List ℕ) (n : ℕ). joined us (octetsAt n s (i + 2)))
       (ap (λ (n : ℕ). take n (set bytes k v)) (add-one k) ∙ take-suc-set bytes k v (omega arith))
       (omega arith)
-      ∙ sym (turn-more s i (20 - k) (take k bytes) (omega arith) e) ∙ r
+      ∙ sym (turn-more s i (hashBytes - k) (take k bytes) (omega arith) e) ∙ r
 
-  reading-end : k ≡ 20 → length bytes ≡ 20 → hashAt s at ≡ record { read = mark.Past i; bytes = bytes }
+  reading-end : k ≡ hashBytes → length bytes ≡ hashBytes → hashAt s at ≡ record { read = expected.Past i; bytes = bytes }
   unfolding Reading hashAt hashOf joined octetsAt
   reading-end z l =
-      ap hashOf (sym (subst (λ (n : ℕ). joined (take n bytes) (octetsAt (20 - n) s i) ≡ octetsAt 20 s at) z r)
-      ∙ ap (λ (bs : List ℕ). ok bs i) (append-nil (take 20 bytes) ∙ take-all 20 bytes (omega arith)))
+      ap hashOf (sym (subst (λ (n : ℕ). joined (take n bytes) (octetsAt (hashBytes - n) s i) ≡ octetsAt hashBytes s at) z r)
+      ∙ ap (λ (bs : List ℕ). ok bs i) (append-nil (take hashBytes bytes) ∙ take-all hashBytes bytes (omega arith)))
 
 abbrev Inv-loop : tie.InvT-loop
-Inv-loop s at bytes₀ i₀ k₀ bytes i k = (k ≤ 20) × (length bytes ≡ 20) × Reading s at bytes i k
+Inv-loop s at bytes₀ i₀ k₀ bytes i k = (k ≤ hashBytes) × (length bytes ≡ hashBytes) × Reading s at bytes i k
 
 abbrev μ-loop : tie.MeasureT-loop
-μ-loop s at bytes₀ i₀ k₀ bytes i k = 20 - k
+μ-loop s at bytes₀ i₀ k₀ bytes i k = hashBytes - k
 
 loop-holds : tie.Need-loop-holds Inv-loop μ-loop
 loop-holds c = (omega arith, refl, reading-start _ _ _)

@@ -1,4 +1,4 @@
--- `line_at` meets its contract. The loop's invariant: the line ends where the one from `i` on ends.
+-- `text::line::line_at` meets its contract. The loop's invariant: the line ends where the one from `i` on ends.
 -- Assumes nothing.
 use mathlib.Core.Path.{_≡_, sym, ap, _∙_}
 use Prim.Native.Nat.{ℕ, _+_, _-_, _≤_}

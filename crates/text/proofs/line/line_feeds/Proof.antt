@@ -1,4 +1,4 @@
--- `line_feeds` meets its contract. The loop's invariant: the LFs so far, and those that are left, are all of them.
+-- `text::line::line_feeds` meets its contract. The loop's invariant: the LFs so far, and those that are left, are all of them.
 -- Assumes nothing.
 use mathlib.Core.Path.{_≡_, refl}
 use mathlib.Core.Logic.{⊎-elim}
@@ -9,7 +9,7 @@ use mathlib.Core.List.{List}
 use lib.ListN.{length, getD, drop, drop-of-length-le}
 use lib.Seq.{drop-cons}
 use borrow.Author.Tests.{eq-eqb, ne-eqb}
-use Rattle.text.specs.Mark.{lf}
+use Rattle.text.specs.Expected.{lf}
 use Rattle.text.specs.Line.{lfsIn}
 use Rattle.text.proofs.line.line_feeds.Statement.{statement}
 use Rattle.text.proofs.line.line_feeds.Tie as tie

@@ -1,4 +1,4 @@
--- `line_number` meets its contract. There are at most as many LFs as bytes, so one more than their number fits.
+-- `text::line::line_number` meets its contract. There are at most as many LFs as bytes, so one more than their number fits.
 -- Assumes nothing.
 use mathlib.Core.Path.{sym}
 use native.Mathlib.Omega.{arith}

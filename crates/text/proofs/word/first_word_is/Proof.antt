@@ -1,4 +1,4 @@
--- `first_word_is` meets its contract. The loop's invariant: what is left of the word is the first word of what is left of the line where
+-- `text::word::first_word_is` meets its contract. The loop's invariant: what is left of the word is the first word of what is left of the line where
 -- all of it is the line's.
 -- Assumes nothing.
 use mathlib.Core.Path.{_≡_, refl, sym, _∙_}
@@ -11,7 +11,7 @@ use lib.ListN.{length, getD, drop, drop-of-length-le}
 use lib.Seq.{drop-cons, drop-length}
 use lib.Dec.{eqb}
 use borrow.Author.Tests.{eq-eqb, ne-eqb}
-use Rattle.text.specs.Mark.{space, lf}
+use Rattle.text.specs.Expected.{space, lf}
 use Rattle.text.specs.Word.{isFirstWord}
 use Rattle.text.proofs.WordLaws.{word-short}
 use Rattle.text.proofs.word.first_word_is.Statement.{statement}

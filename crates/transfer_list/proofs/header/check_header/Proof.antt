@@ -6,28 +6,29 @@ use native.Mathlib.Omega.{arith}
 use borrow.Author.Needs.{needs}
 use borrow.Author.Tests.{lt-ltb, le-ltb, eq-eqb, ne-eqb}
 use Rattle.state.specs.Limits.{blockBytes, mostStashes}
-use Rattle.state.specs.Refusals.{versionOther, headerLimit}
+use Rattle.state.specs.Refusals.{otherVersion, headerLimit}
+use Rattle.state.specs.States.{refusing, noRefusal}
 use Rattle.state.specs.declared.Lengths.{Lengths}
 use Rattle.transfer_list.specs.declared.header.Header.{Header}
 use Rattle.transfer_list.specs.declared.header.HeaderRead.{HeaderRead}
 use Rattle.transfer_list.specs.declared.header.HeaderRead.the-variants.{Good}
-use Rattle.transfer_list.specs.Header.{version3, refusal, noRefusal, headerRefusal}
+use Rattle.transfer_list.specs.Header.{version3, headerRefusal}
 use Rattle.transfer_list.proofs.header.check_header.Statement.{statement}
 use Rattle.transfer_list.proofs.header.check_header.Tie as tie
 
 -- what `headerRefusal` says of a header that was read, by cases
 module _ (lengths : Lengths) (h : Header) {r : HeaderRead} (e : r ≡ Good h) where
-  version-other : (h .version ≡ version3 → ⊥) → refusal versionOther 1 ≡ headerRefusal lengths r
+  version-other : (h .version ≡ version3 → ⊥) → refusing otherVersion 1 ≡ headerRefusal lengths r
   unfolding headerRefusal
   version-other n = rw (e, ne-eqb (h .version) version3 n)
 
   module _ (v : h .version ≡ version3) where
-    stashes-over : mostStashes < h .stashes → refusal headerLimit 3 ≡ headerRefusal lengths r
+    stashes-over : mostStashes < h .stashes → refusing headerLimit 3 ≡ headerRefusal lengths r
     unfolding headerRefusal
     stashes-over s = rw (e, eq-eqb (h .version) version3 v, lt-ltb mostStashes (h .stashes) s)
 
     module _ (s : h .stashes ≤ mostStashes) where
-      blocks-over : lengths .stash / blockBytes < h .blocks → refusal headerLimit 4 ≡ headerRefusal lengths r
+      blocks-over : lengths .stash / blockBytes < h .blocks → refusing headerLimit 4 ≡ headerRefusal lengths r
       unfolding headerRefusal
       blocks-over b =
           rw (e, eq-eqb (h .version) version3 v, le-ltb mostStashes (h .stashes) s, lt-ltb (lengths .stash / blockBytes) (h .blocks) b)

@@ -3,7 +3,7 @@
 use mathlib.Core.Path.{sym, _∙_}
 use borrow.Author.Needs.{needs}
 use borrow.Author.Tests.{lt-ltb, le-ltb, not-true, not-false}
-use Rattle.transfer_list.specs.Header.{startRefusal}
+use Rattle.transfer_list.specs.Header.{headerRefusal, startRefusal}
 use Rattle.transfer_list.proofs.header.check_start.Statement.{statement}
 use Rattle.transfer_list.proofs.header.check_start.Tie as tie
 
@@ -25,7 +25,7 @@ check-header-requires : tie.Need-check-header-requires
 check-header-requires c κs = search needs
 
 returns-3 : tie.Need-returns-3
-unfolding startRefusal
+unfolding headerRefusal startRefusal
 returns-3 c = rw (sym (c .before .before .before .before .are-areas .ensures) ∙ not-false _ (c .before .before .before .if1 .left), le-ltb _ _ (c .before .before .if2 .left), sym (c .before .read-header .ensures)) (c .check-header .ensures)
 
 pub check-start-spec : {M : Type 1} → statement M

@@ -22,8 +22,8 @@ returns c = rw (sym (c .before .before .read-header-line .ensures) ∙ c .enum-t
 read-header-line-requires-2 : tie.Need-read-header-line-requires-2
 read-header-line-requires-2 c κs = search needs
 
-enum-known-fresh : tie.Need-enum-known-fresh
-enum-known-fresh c = search needs
+enum-known-total : tie.Need-enum-known-total
+enum-known-total c = search needs
 
 enum-told-2 : tie.Need-enum-told-2
 enum-told-2 c = search needs
@@ -43,7 +43,7 @@ enum-told-3 c = search needs
 
 returns-3 : tie.Need-returns-3
 unfolding headerOf
-returns-3 c = rw (sym (c .before .before .before .before .before .before .before .before .before .before .read-header-line .ensures) ∙ c .before .before .before .before .before .before .before .before .version .given .1, sym (c .before .before .before .before .before .before .read-header-line2 .ensures) ∙ c .before .before .before .before .fresh .given .1, sym (c .before .before .read-header-line3 .ensures) ∙ c .enum-told3 .given .1)
+returns-3 c = rw (sym (c .before .before .before .before .before .before .before .before .before .before .read-header-line .ensures) ∙ c .before .before .before .before .before .before .before .before .version .given .1, sym (c .before .before .before .before .before .before .read-header-line2 .ensures) ∙ c .before .before .before .before .total .given .1, sym (c .before .before .read-header-line3 .ensures) ∙ c .enum-told3 .given .1)
 
 read-header-line-requires-4 : tie.Need-read-header-line-requires-4
 read-header-line-requires-4 c κs = search needs
@@ -56,11 +56,11 @@ enum-told-4 c = search needs
 
 returns-4 : tie.Need-returns-4
 unfolding headerOf
-returns-4 c = rw (sym (c .before .before .before .before .before .before .before .before .before .before .before .before .before .before .read-header-line .ensures) ∙ c .before .before .before .before .before .before .before .before .before .before .before .before .version .given .1, sym (c .before .before .before .before .before .before .before .before .before .before .read-header-line2 .ensures) ∙ c .before .before .before .before .before .before .before .before .fresh .given .1, sym (c .before .before .before .before .before .before .read-header-line3 .ensures) ∙ c .before .before .before .before .stashes .given .1, sym (c .before .before .read-header-line4 .ensures) ∙ c .enum-told4 .given .1)
+returns-4 c = rw (sym (c .before .before .before .before .before .before .before .before .before .before .before .before .before .before .read-header-line .ensures) ∙ c .before .before .before .before .before .before .before .before .before .before .before .before .version .given .1, sym (c .before .before .before .before .before .before .before .before .before .before .read-header-line2 .ensures) ∙ c .before .before .before .before .before .before .before .before .total .given .1, sym (c .before .before .before .before .before .before .read-header-line3 .ensures) ∙ c .before .before .before .before .stashes .given .1, sym (c .before .before .read-header-line4 .ensures) ∙ c .enum-told4 .given .1)
 
 returns-5 : tie.Need-returns-5
 unfolding headerOf
-returns-5 c = rw (sym (c .before .before .before .before .before .before .before .before .before .before .before .before .before .before .before .read-header-line .ensures) ∙ c .before .before .before .before .before .before .before .before .before .before .before .before .before .version .given .1, sym (c .before .before .before .before .before .before .before .before .before .before .before .read-header-line2 .ensures) ∙ c .before .before .before .before .before .before .before .before .before .fresh .given .1, sym (c .before .before .before .before .before .before .before .read-header-line3 .ensures) ∙ c .before .before .before .before .before .stashes .given .1, sym (c .before .before .before .read-header-line4 .ensures) ∙ c .before .blocks2 .given .1)
+returns-5 c = rw (sym (c .before .before .before .before .before .before .before .before .before .before .before .before .before .before .before .read-header-line .ensures) ∙ c .before .before .before .before .before .before .before .before .before .before .before .before .before .version .given .1, sym (c .before .before .before .before .before .before .before .before .before .before .before .read-header-line2 .ensures) ∙ c .before .before .before .before .before .before .before .before .before .total .given .1, sym (c .before .before .before .before .before .before .before .read-header-line3 .ensures) ∙ c .before .before .before .before .before .stashes .given .1, sym (c .before .before .before .read-header-line4 .ensures) ∙ c .before .blocks2 .given .1)
 
 pub read-header-spec : {M : Type 1} → statement M
 read-header-spec =
@@ -71,7 +71,7 @@ read-header-spec =
     enum-told
     returns
     read-header-line-requires-2
-    enum-known-fresh
+    enum-known-total
     enum-told-2
     returns-2
     read-header-line-requires-3

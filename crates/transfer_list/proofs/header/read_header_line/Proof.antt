@@ -15,8 +15,8 @@ enum-known-p c = search needs
 enum-known-v : tie.Need-enum-known-v
 enum-known-v c = search needs
 
-read-mark-requires : tie.Need-read-mark-requires
-read-mark-requires c κs = search needs
+read-expected-requires : tie.Need-read-expected-requires
+read-expected-requires c κs = search needs
 
 enum-known-p-2 : tie.Need-enum-known-p-2
 enum-known-p-2 c = search needs
@@ -30,11 +30,11 @@ returns c = rw (sym (c .before .before .before .read-number .ensures) ∙ c .bef
 
 returns-2 : tie.Need-returns-2
 unfolding headerLineAt
-returns-2 c = rw (sym (c .before .before .before .before .before .before .before .read-number .ensures) ∙ c .before .before .before .before .before .v .given .1, sym (c .before .before .before .read-mark .ensures) ∙ c .before .p2 .given .1)
+returns-2 c = rw (sym (c .before .before .before .before .before .before .before .read-number .ensures) ∙ c .before .before .before .before .before .v .given .1, sym (c .before .before .before .read-expected .ensures) ∙ c .before .p2 .given .1)
 
 returns-3 : tie.Need-returns-3
 unfolding headerLineAt
-returns-3 c = rw (sym (c .before .before .before .before .before .before .before .read-number .ensures) ∙ c .before .before .before .before .before .v .given .1, sym (c .before .before .before .read-mark .ensures) ∙ c .before .next .given .1)
+returns-3 c = rw (sym (c .before .before .before .before .before .before .before .read-number .ensures) ∙ c .before .before .before .before .before .v .given .1, sym (c .before .before .before .read-expected .ensures) ∙ c .before .next .given .1)
 
 pub read-header-line-spec : {M : Type 1} → statement M
 read-header-line-spec =
@@ -43,7 +43,7 @@ read-header-line-spec =
     read-number-requires
     enum-known-p
     enum-known-v
-    read-mark-requires
+    read-expected-requires
     enum-known-p-2
     enum-known-next
     returns

@@ -1,3 +1,5 @@
+-- `copy_in` meets its contract. The loop's invariant: the first i bytes are copied, and the others are as they were.
+-- Assumes nothing.
 use mathlib.Core.Path.{_≡_, refl, _∙_}
 use mathlib.Core.List.{_++_}
 use Prim.Native.Nat.{_-_, _≤_, _<_}
@@ -9,7 +11,6 @@ use Rattle.updater.proofs.ByteLaws.{front-more}
 use Rattle.updater.proofs.areas.copy_in.Statement.{statement}
 use Rattle.updater.proofs.areas.copy_in.Tie as tie
 
--- The first i bytes are copied, and the others are as they were.
 abbrev Inv-loop : tie.InvT-loop
 Inv-loop to₀ from n i₀ to i = (i ≤ n) × (to ≡ take i from ++ drop i to₀) × (length to ≡ length to₀)
 

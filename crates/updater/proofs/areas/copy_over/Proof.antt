@@ -1,3 +1,5 @@
+-- `copy_over` meets its contract: the lent part, filled, is back in the area.
+-- Assumes nothing.
 use Prim.Native.Nat.{_+_, _-_}
 use native.Mathlib.Omega.{arith}
 use lib.ListN.{take, length-take, length-drop}

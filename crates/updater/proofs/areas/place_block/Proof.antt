@@ -1,3 +1,5 @@
+-- `place_block` meets its contract: the rest of the work area from the place on is lent, and its front is filled with the block.
+-- Assumes nothing.
 use Prim.Native.Nat.{_-_, _*_}
 use mathlib.Core.Path.{_≡_, ap, _∙_}
 use native.Mathlib.Omega.{arith}
@@ -7,6 +9,7 @@ use Rattle.text.specs.Choice.{pick}
 use Rattle.updater.specs.Bytes.{blockAt}
 use Rattle.updater.proofs.ByteLaws.{part-back, length-block}
 use borrow.Author.Needs.{needs}
+use Rattle.state.specs.Limits.{blockBytes}
 use Rattle.updater.proofs.areas.place_block.Statement.{statement}
 use Rattle.updater.proofs.areas.place_block.Tie as tie
 
@@ -30,7 +33,7 @@ copy-in-requires c κs =
     let b = c .before in
     let s = b .before .before .before .before in
     let a = s .args in
-    let e : length (now (b .source-block .result)) ≡ 4096 =
+    let e : length (now (b .source-block .result)) ≡ blockBytes =
     ap length (b .source-block .ensures) ∙ length-block (pick (a .stashed) (a .stash .now) (a .image .now)) (a .k) (s .pre .0) in
     simp (length-take, length-drop) (omega arith)
 
@@ -44,7 +47,7 @@ returns c =
     let s = d .before .before .before .before in
     let a = s .args in
     let source = pick (a .stashed) (a .stash .now) (a .image .now) in
-    part-back (a .work .now) (blockAt source (a .k)) (b .copy-in .last .0) (4096 * a .p) (length (a .work .now) - 4096 * a .p)
+    part-back (a .work .now) (blockAt source (a .k)) (b .copy-in .last .0) (blockBytes * a .p) (length (a .work .now) - blockBytes * a .p)
     (rw (length-block source (a .k) (s .pre .0)) (simp (length-take, length-drop) (omega arith)))
     (rw (d .source-block .ensures) at (b .copy-in .ensures))
 

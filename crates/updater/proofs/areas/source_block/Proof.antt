@@ -1,3 +1,5 @@
+-- `source_block` meets its contract: a block of either area lies within it.
+-- Assumes nothing.
 use mathlib.Core.Path.{_≡_}
 use mathlib.Core.Bool.{Bool, true, false}
 use mathlib.Core.List.{List}
@@ -6,6 +8,7 @@ use native.Mathlib.Omega.{arith}
 use lib.ListN.{length}
 use Rattle.text.specs.Choice.{pick}
 use borrow.Author.Needs.{needs}
+use Rattle.state.specs.Limits.{blockBytes}
 use Rattle.updater.proofs.areas.source_block.Statement.{statement}
 use Rattle.updater.proofs.areas.source_block.Tie as tie
 
@@ -17,7 +20,7 @@ picked-below false x y h k = k
 fitting : (c : tie.Start) → length (pick (c .args .stashed) (c .args .stash .now) (c .args .image .now)) < 2 ^ 64
 fitting c = picked-below (c .args .stashed) (c .args .stash .now) (c .args .image .now) (c .good .1 .0 .0) (c .good .0 .0)
 
-whole : (k : ℕ) → 4096 * k + 4096 - 4096 * k ≡ 4096
+whole : (k : ℕ) → blockBytes * k + blockBytes - blockBytes * k ≡ blockBytes
 whole k = omega arith
 
 mul-start : tie.Need-mul-start

@@ -1,3 +1,5 @@
+-- `zero_all` meets its contract. The loop's invariant: the first i bytes are zeros, and the others are as they were.
+-- Assumes nothing.
 use Prim.Native.Nat.{ℕ, _-_, _≤_, _<_}
 use mathlib.Core.Path.{_≡_, refl, _∙_}
 use mathlib.Core.List.{_++_, append-nil}
@@ -9,7 +11,6 @@ use Rattle.updater.proofs.ByteLaws.{front-more}
 use Rattle.updater.proofs.areas.zero_all.Statement.{statement}
 use Rattle.updater.proofs.areas.zero_all.Tie as tie
 
--- The first i bytes are zeros, and the others are as they were.
 abbrev Inv-loop : tie.InvT-loop
 Inv-loop area₀ i₀ area i =
     (i ≤ length area₀) × (area ≡ take i (replicate (length area₀) 0) ++ drop i area₀) × (length area ≡ length area₀)

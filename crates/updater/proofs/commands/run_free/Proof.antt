@@ -1,44 +1,53 @@
+-- `run_free` meets its contract: the stashes younger than the one that was found move down to where it started.
+-- Assumes nothing.
 use Prim.Native.Nat.{ℕ, _+_, _≤_}
-use mathlib.Core.Path.{_≡_, sym, ap, _∙_}
+use mathlib.Core.Path.{_≡_, sym, _∙_}
+use mathlib.Core.List.{List}
 use native.Mathlib.Omega.{arith}
-use lib.ListN.{length, take}
 use borrow.Author.Needs.{needs}
-use Rattle.state.specs.Stashes.{held, blocksHeld}
-use Rattle.state.specs.declared.State.{State}
-use Rattle.state.proofs.StashLaws.{blocks-held-before, release-others}
-use Rattle.updater.specs.Steps.{placeOf, passed}
-use Rattle.updater.proofs.StepLaws.{blocks-all, closed-up, after-free-at, after-free-nothing, leaves, leaves-freed}
+use Rattle.state.specs.Limits.{mostAreaBlocks}
+use Rattle.state.specs.Stashes.{Stash, Table, tableAt, heldIn, sizeAt, blocksHeld}
+use Rattle.state.proofs.StashLaws.{blocks-held-before}
+use Rattle.state.proofs.TableLaws.{blocks-all}
+use Rattle.updater.specs.Source.{stashStart}
+use Rattle.updater.proofs.SourceLaws.{start-exact}
+use Rattle.updater.proofs.EffectLaws.{closed-at, closed-nothing}
 use Rattle.updater.proofs.commands.run_free.Statement.{statement}
 use Rattle.updater.proofs.commands.run_free.Tie as tie
 
 abbrev start : tie.After-stash-blocks → tie.Start
-start c = c .before .before .before .before .before .before .before .before .before .before
+start c = c .before .before .before .before .before .before .before
 
-abbrev found : tie.After-stash-blocks → ℕ
-found c = c .before .before .before .j .given .0 .0
+abbrev table : tie.Start → Table
+table s = tableAt (s .args .hashes .now) (s .args .sizes .now) (s .args .count)
 
--- the stash that is found lies among those held, which are few
+abbrev stashes : tie.Start → List Stash
+stashes s = heldIn (table s)
+
+abbrev index : tie.After-stash-blocks → ℕ
+index c = c .before .before .before .j .given .0 .0
+
+-- the stash that was found starts past the older ones ..
+first : (c : tie.After-stash-blocks) → c .before .blocks-before .result ≡ stashStart (stashes (start c)) (index c)
+first c = start-exact _ _ (start c .pre) (index c) (c .before .blocks-before .ensures (start c .args .hashes .now))
+
+size : (c : tie.After-stash-blocks) → c .stash-blocks .result ≡ sizeAt (stashes (start c)) (index c)
+size c = c .stash-blocks .ensures (start c .args .hashes .now)
+
+-- .. and lies among those held, which are few
 within : (c : tie.After-stash-blocks) →
-    (c .before .blocks-before .result ≡ blocksHeld (take (found c) (held (start c .args .s))))
-    × (c .before .blocks-before .result + c .stash-blocks .result ≤ blocksHeld (held (start c .args .s)))
-    × (blocksHeld (held (start c .args .s)) ≤ 4096)
-within c =
-    let s = start c .args .s in
-    let b = blocks-held-before (held s) (found c) in
-    let k = start c .pre .0 .blocks in
-    (omega arith, omega arith, omega arith)
+    (c .before .blocks-before .result + c .stash-blocks .result ≤ blocksHeld (stashes (start c)))
+    × (blocksHeld (stashes (start c)) ≤ mostAreaBlocks)
+within c = (omega (arith, first c, size c, blocks-held-before (stashes (start c)) (index c)), start c .pre .blocks)
 
 -- all blocks held
-all : (c : tie.After-blocks-before2) → c .blocks-before2 .result ≡ blocksHeld (held (start (c .before) .args .s))
+all : (c : tie.After-blocks-before2) → c .blocks-before2 .result ≡ blocksHeld (stashes (start (c .before)))
 all c =
     let s = start (c .before) in
-    blocks-all (s .args .s) (s .pre .0 .blocks) (c .blocks-before2 .ensures)
+    blocks-all (table s) (c .blocks-before2 .ensures (s .args .hashes .now)) (omega (arith, s .pre .blocks))
 
 find-stash-requires : tie.Need-find-stash-requires
 find-stash-requires c κs = search needs
-
-enum-told : tie.Need-enum-told
-enum-told c = search needs
 
 enum-known-j : tie.Need-enum-known-j
 enum-known-j c = search needs
@@ -56,7 +65,7 @@ blocks-before-requires-2 : tie.Need-blocks-before-requires-2
 blocks-before-requires-2 c κs = search needs
 
 mul-move-down : tie.Need-mul-move-down
-mul-move-down c = search needs
+mul-move-down c = omega (arith, within (c .before .before))
 
 mul-move-down-2 : tie.Need-mul-move-down-2
 mul-move-down-2 c = omega (arith, within (c .before .before))
@@ -65,53 +74,42 @@ sub-move-down : tie.Need-sub-move-down
 sub-move-down c = omega (arith, within (c .before .before), all (c .before))
 
 mul-move-down-3 : tie.Need-mul-move-down-3
-mul-move-down-3 c = search needs
+mul-move-down-3 c = omega (arith, within (c .before .before), all (c .before))
 
 move-down-requires : tie.Need-move-down-requires
 move-down-requires c κs =
-    let k = start (c .before .before) .pre .0 .stash in
-    (omega arith, omega (arith, within (c .before .before), all (c .before)))
+    let b = c .before .before in
+    (omega arith, omega (arith, within b, all (c .before), start b .pre .room))
 
-release-requires : tie.Need-release-requires
-release-requires c κs = search needs
-
-pass-requires : tie.Need-pass-requires
-pass-requires c κs =
-    let b = c .before .before .before .before .before .before in
-    let o = release-others (start b .args .s) (found b) in
-    let e = c .release .ensures in
-    let p = start b .pre .1 in
-    (omega (arith, ap (λ (t : State). t .at) e, o .at, p .at), omega (arith, ap (λ (t : State). t .line) e, o .line, p .line))
-
-returns : tie.Need-returns
-returns c =
-    let a = c .before .before .before .before .before .before .before .args in
-    leaves (after-free-nothing (a .l .now) (a .hash) (placeOf (a .image .now) (a .stash .now) (a .work .now) (a .s))
-    (sym (c .before .before .find-stash .ensures) ∙ c .enum-told .given .1))
+enum-told : tie.Need-enum-told
+enum-told c = search needs
 
 same-length : tie.Need-same-length
 same-length c = search needs
 
+returns : tie.Need-returns
+returns c =
+    let m = c .before .before in
+    let b = m .before .before .before in
+    let s = start b in
+    m .move-down .ensures
+    ∙ closed-at (stashes s) (s .args .stash .now)
+    (sym (b .before .before .before .before .before .find-stash .ensures (s .args .sizes .now)) ∙ b .before .before .before .j .given .1)
+    (first b)
+    (size b)
+    (all (m .before .before))
+
 returns-2 : tie.Need-returns-2
 returns-2 c =
-    let b = c .before .before .before .before .before .before .before in
-    let a = start b .args in
-    let p = placeOf (a .image .now) (a .stash .now) (a .work .now) (a .s) in
-    let j = found b in
-    leaves-freed (a .l .now) p j
-    (after-free-at (a .l .now) (a .hash) p
-    (sym (b .before .before .before .before .before .find-stash .ensures) ∙ b .before .before .before .j .given .1))
-    (c .before .before .before .before .move-down .ensures
-    ∙ closed-up (held (a .s)) j (a .stash .now) (within b .0) (b .stash-blocks .ensures)
-    (all (c .before .before .before .before .before .before)))
-    (c .pass .ensures ∙ ap (λ (t : State). passed t (length (a .l .now))) (c .before .release .ensures))
+    let s = c .before .before .before .before in
+    closed-nothing (stashes s) (s .args .stash .now)
+    (sym (c .before .before .find-stash .ensures (s .args .sizes .now)) ∙ c .enum-told .given .1)
 
 pub run-free-spec : {M : Type 1} → statement M
 run-free-spec =
     tie.close
     (tie.spec
     find-stash-requires
-    enum-told
     enum-known-j
     blocks-before-requires
     stash-blocks-requires
@@ -122,8 +120,7 @@ run-free-spec =
     sub-move-down
     mul-move-down-3
     move-down-requires
-    release-requires
-    pass-requires
-    returns
+    enum-told
     same-length
+    returns
     returns-2)

@@ -1,52 +1,40 @@
-use Prim.Native.Nat.{ℕ}
-use mathlib.Core.Path.{_≡_, sym, ap, _∙_}
+-- `run_stash` meets its contract: S goes into the work area and, if its hash is the given one, from there past the last stash.
+-- Assumes nothing.
+use mathlib.Core.Path.{_≡_, sym, _∙_}
 use mathlib.Core.List.{List}
 use native.Mathlib.Omega.{arith}
-use borrow.Author.Tests.{not-true, not-false}
-use lib.ListN.{length}
 use borrow.Author.Needs.{needs}
-use Rattle.state.specs.Stashes.{held, blocksHeld}
-use Rattle.state.specs.declared.State.{State}
-use Rattle.state.proofs.StashLaws.{hold-others}
-use Rattle.updater.specs.Source.{supplied}
-use Rattle.updater.specs.Steps.{Place, placeOf, passed}
-use Rattle.updater.proofs.SourceLaws.{supplied-front}
-use Rattle.updater.proofs.StepLaws.{blocks-all, after-stash-good, after-stash-bad, leaves-differing, leaves-stashed}
+use borrow.Author.Tests.{not-true, not-false}
+use Rattle.state.specs.Stashes.{Stash, Table, tableAt, heldIn, blocksHeld}
+use Rattle.state.proofs.TableLaws.{blocks-all}
+use Rattle.updater.specs.Areas.{Areas, areasOf}
+use Rattle.updater.proofs.EffectLaws.{stash-done, stash-differs}
 use Rattle.updater.proofs.commands.run_stash.Statement.{statement}
 use Rattle.updater.proofs.commands.run_stash.Tie as tie
 
 abbrev start : tie.After-has-hash → tie.Start
-start c = c .before .before .before .before .before .before .before .before .before .before .before .before
+start c = c .before .before .before .before .before .before .before .before .before .before .before
 
-abbrev place : tie.After-has-hash → Place
-place c = let a = start c .args in placeOf (a .image .now) (a .stash .now) (a .work .now) (a .s)
+abbrev table : tie.Start → Table
+table s = tableAt (s .args .hashes .now) (s .args .sizes .now) (s .args .count)
 
--- the work area, filled
-abbrev filled : tie.After-has-hash → List ℕ
-filled c = c .before .before .before .before .fill-front .last .1 .1 .0
+abbrev stashes : tie.Start → List Stash
+stashes s = heldIn (table s)
 
--- .. by S
-front : (c : tie.After-has-hash) →
-    let a = start c .args in filled c ≡ supplied (a .l .now) (a .image .now) (a .set .at) (a .set .blocks) (a .work .now)
-front c =
-    let a = start c .args in
-    supplied-front (a .l .now) (a .image .now) (a .set .at) (a .work .now) (start c .pre .1 .0 .from .size)
-    (c .before .before .before .before .fill-front .ensures)
+abbrev areas : tie.Start → Areas
+areas s = areasOf (s .args .image .now) (s .args .stash .now) (s .args .work .now)
 
 -- all blocks held
-all : (c : tie.After-blocks-before) → c .blocks-before .result ≡ blocksHeld (held (start (c .before .before) .args .s))
+all : (c : tie.After-blocks-before) → c .blocks-before .result ≡ blocksHeld (stashes (start (c .before .before)))
 all c =
     let s = start (c .before .before) in
-    blocks-all (s .args .s) (s .pre .0 .blocks) (c .blocks-before .ensures)
+    blocks-all (table s) (c .blocks-before .ensures (s .args .hashes .now)) (omega (arith, s .pre .most))
 
-fill-front-requires : tie.Need-fill-front-requires
-fill-front-requires c κs = search needs
+supply-requires : tie.Need-supply-requires
+supply-requires c κs = search needs
 
 has-hash-requires : tie.Need-has-hash-requires
 has-hash-requires c κs = search needs
-
-refuse-requires : tie.Need-refuse-requires
-refuse-requires c κs = search needs
 
 same-length : tie.Need-same-length
 same-length c = search needs
@@ -54,22 +42,18 @@ same-length c = search needs
 same-length-2 : tie.Need-same-length-2
 same-length-2 c = search needs
 
-same-length-3 : tie.Need-same-length-3
-same-length-3 c = search needs
-
 returns : tie.Need-returns
 returns c =
-    let h = c .before .before in
-    let a = start h .args in
-    leaves-differing (place h)
-    (after-stash-bad (a .l .now) (a .hash) (place h) (a .set) (front h) (sym (h .has-hash .ensures) ∙ not-true _ (c .before .if1 .taken)))
-    (c .refuse .ensures)
+    let h = c .before in
+    let s = start h in
+    stash-differs (s .args .l .now) (stashes s) (s .args .hash) (areas s) (s .args .set) (h .before .before .before .before .supply .ensures)
+    (sym (h .has-hash .ensures) ∙ not-true _ (c .if1 .taken))
 
 blocks-before-requires : tie.Need-blocks-before-requires
 blocks-before-requires c κs = search needs
 
 mul-start : tie.Need-mul-start
-mul-start c = search needs
+mul-start c = omega (arith, all c, start (c .before .before) .pre .most)
 
 mul-copy-over : tie.Need-mul-copy-over
 mul-copy-over c = search needs
@@ -78,58 +62,37 @@ copy-over-requires : tie.Need-copy-over-requires
 copy-over-requires c κs =
     let b = c .before .before in
     let h = b .before .before in
-    let r = start h .pre .1 .0 in
-    (omega (arith, all b, r .fits), omega (arith, r .room, h .before .before .before .before .fill-front .kept))
+    let r = start h .pre in
+    (omega (arith, all b, r .fits), omega (arith, r .room, h .before .before .before .before .supply .kept))
 
-hold-requires : tie.Need-hold-requires
-hold-requires c κs = search needs
-
-pass-requires : tie.Need-pass-requires
-pass-requires c κs =
-    let h = start (c .before .before .before .before .before .before .before .before) in
-    let o = hold-others (h .args .s) (h .args .hash) (h .args .set .blocks) in
-    let e = c .hold .ensures in
-    let p = h .pre .1 .1 in
-    (omega (arith, ap (λ (t : State). t .at) e, o .at, p .at), omega (arith, ap (λ (t : State). t .line) e, o .line, p .line))
+same-length-3 : tie.Need-same-length-3
+same-length-3 c = search needs
 
 same-length-4 : tie.Need-same-length-4
 same-length-4 c = search needs
 
-same-length-5 : tie.Need-same-length-5
-same-length-5 c = search needs
-
-same-length-6 : tie.Need-same-length-6
-same-length-6 c = search needs
-
 returns-2 : tie.Need-returns-2
 returns-2 c =
-    let b = c .before .before .before .before .before .before .before in
+    let b = c .before .before .before .before .before in
     let h = b .before .before in
-    let a = start h .args in
-    leaves-stashed (a .l .now) (a .hash) (a .set) (place h)
-    (after-stash-good (a .l .now) (a .hash) (place h) (a .set) (front h) (sym (h .has-hash .ensures) ∙ not-false _ (b .before .if1 .left)))
-    (all b)
-    (c .before .before .before .before .copy-over .ensures)
-    (c .pass .ensures ∙ ap (λ (t : State). passed t (length (a .l .now))) (c .before .hold .ensures))
+    let s = start h in
+    stash-done (s .args .l .now) (stashes s) (s .args .hash) (areas s) (s .args .set) (h .before .before .before .before .supply .ensures)
+    (sym (h .has-hash .ensures) ∙ not-false _ (b .before .if1 .left))
+    (rw (all b) at (c .before .before .copy-over .ensures))
 
 pub run-stash-spec : {M : Type 1} → statement M
 run-stash-spec =
     tie.close
     (tie.spec
-    fill-front-requires
+    supply-requires
     has-hash-requires
-    refuse-requires
     same-length
     same-length-2
-    same-length-3
     returns
     blocks-before-requires
     mul-start
     mul-copy-over
     copy-over-requires
-    hold-requires
-    pass-requires
+    same-length-3
     same-length-4
-    same-length-5
-    same-length-6
     returns-2)

@@ -2,33 +2,43 @@
 -- Assumes nothing.
 use mathlib.Core.Path.{_≡_, refl, sym, _∙_}
 use mathlib.Core.List.{List}
-use Prim.Native.Nat.{ℕ, _-_, _<_}
+use Prim.Native.Nat.{ℕ, _+_, _-_, _<_, _^_}
 use native.Mathlib.Omega.{arith}
 use borrow.Author.Needs.{needs}
 use lib.ListN.{length}
-use Rattle.rules.specs.declared.Limits.{Limits}
-use Rattle.updater.specs.Steps.{Place, placeOf, furtherInto}
-use Rattle.updater.specs.Run.{wantedBy, machine}
+use Rattle.state.specs.Refusals.{none}
+use Rattle.state.specs.Stashes.{tableAt}
+use Rattle.state.specs.States.{stateOf}
+use Rattle.command.specs.Targets.{newTarget}
+use Rattle.command.specs.declared.targets.NewTarget.the-variants as new
+use Rattle.rules.specs.declared.Terms.{Terms}
+use Rattle.machine.proofs.LoopLaws.{Same, same}
+use Rattle.updater.specs.Areas.{areasOf}
+use Rattle.updater.specs.Steps.{Config, configOf}
+use Rattle.updater.specs.Run.{machine}
 use Rattle.updater.specs.Fits.{Fits}
-use Rattle.updater.specs.declared.run.Wanted.the-variants.{Target, Nothing}
-use Rattle.updater.proofs.LoopLaws.{Same, same}
+use Rattle.updater.proofs.RunnableLaws.{keeps, next-line}
 use Rattle.updater.proofs.FitLaws.{fits-sound}
-use Rattle.updater.proofs.RunLaws.{Checks, Turned, checked-passes, checked-runs, new-in-image, new-counts}
-use Rattle.updater.proofs.RunLaws.{stops-refused, stops-finished, refuses, runs, lacks, fills, came}
+use Rattle.updater.proofs.RunLaws.{Checks, Turned, checked-at, checked-runs, new-in-image, new-counts}
+use Rattle.updater.proofs.RunLaws.{stops-finished, refuses, halts, runs, lacks, fills, came}
 use Rattle.updater.proofs.run.run_lines.Statement.{statement}
 use Rattle.updater.proofs.run.run_lines.Tie as tie
 
--- The areas are as long as at the start, and what is left to do from here gives the same.
+-- The areas are as long as at the start, nothing is refused, the bytes into a `new` fit, and what is left to do from here gives the same.
 abbrev Inv-lines : tie.InvT-lines
-Inv-lines list image₀ stash₀ work₀ piece limits s₀ i₀ image stash work s i =
-    (length image ≡ length image₀) × (length stash ≡ length stash₀) × (length work ≡ length work₀)
-    × Same (machine list limits) (Fits list limits) piece (placeOf image₀ stash₀ work₀ s₀) 0 (placeOf image stash work s) i
+Inv-lines list image₀ stash₀ work₀ piece terms hashes₀ sizes₀ count₀ line₀ at₀ into₀ refusal₀ lengths i₀ image stash work hashes sizes count line at into refusal i =
+    (length image ≡ length image₀) × (length stash ≡ length stash₀) × (length work ≡ length work₀) × (refusal .number ≡ none)
+    × (into < 2 ^ 64)
+    × Same (machine list terms) (Fits list terms) piece
+    (configOf (areasOf image₀ stash₀ work₀) (stateOf (tableAt hashes₀ sizes₀ count₀) line₀ at₀ into₀ refusal₀ lengths)) 0
+    (configOf (areasOf image stash work) (stateOf (tableAt hashes sizes count) line at into refusal lengths)) i
 
 -- Each turn burns fuel, since it ends with a step that needs no byte.
 abbrev μ-lines : tie.MeasureT-lines
-μ-lines list image₀ stash₀ work₀ piece limits s₀ i₀ image stash work s i = machine list limits .fuel (placeOf image stash work s)
+μ-lines list image₀ stash₀ work₀ piece terms hashes₀ sizes₀ count₀ line₀ at₀ into₀ refusal₀ lengths i₀ image stash work hashes sizes count line at into refusal i =
+    machine list terms .fuel (configOf (areasOf image stash work) (stateOf (tableAt hashes sizes count) line at into refusal lengths))
 
--- ---- where a turn starts, where its line is checked, where that is a `new`, and where its bytes are taken
+-- ---- where a turn starts, where its line is checked, where that is a `new`, where its bytes are taken, and where a command is done
 
 abbrev Turn : Type 0
 Turn = tie.At-lines Inv-lines μ-lines
@@ -40,95 +50,110 @@ abbrev New : Type 0
 New = tie.After-set Inv-lines μ-lines
 
 abbrev Taken : Type 0
-Taken = tie.After-further Inv-lines μ-lines
+Taken = tie.After-take-new Inv-lines μ-lines
+
+abbrev Done : Type 0
+Done = tie.After-run-command Inv-lines μ-lines
 
 abbrev turn : Line → Turn
-turn c = c .before .before .before .before .before .before .before
+turn c = c .before .before .before .before .before
 
 abbrev line : New → Line
 line c = c .before .before .before .before .before .before
 
-abbrev new : Taken → New
-new c = c .before .before .before .before .before .before
+abbrev new-at : Taken → New
+new-at c = c .before .before .before
+
+abbrev line-of : Done → Line
+line-of c = c .before .before .before .before .before .before .before .before .before .before .before .before
+
+abbrev start : Turn → tie.Start Inv-lines μ-lines
+start r = r .before .before .before .before .before .before .before .before .before .before
 
 abbrev textOf : Turn → List ℕ
-textOf r = r .before .before .before .before .before .before .args .list .now
+textOf r = start r .args .list .now
 
-abbrev limitsOf : Turn → Limits
-limitsOf r = r .before .before .before .before .before .before .args .limits
+abbrev termsOf : Turn → Terms
+termsOf r = start r .args .terms
 
 abbrev pieceOf : Turn → List ℕ
-pieceOf r = r .before .before .before .before .before .before .args .piece .now
+pieceOf r = start r .args .piece .now
 
--- the place where the call starts
-abbrev first : Turn → Place
-first r =
-    let a = r .before .before .before .before .before .before .args in
-    placeOf (a .image .now) (a .stash .now) (a .work .now) (a .state)
+-- where the call starts
+abbrev first : Turn → Config
+first r = let a = start r .args in configOf (areasOf (a .image .now) (a .stash .now) (a .work .now)) (a .state)
 
--- the place where the turn starts
-abbrev here : Turn → Place
-here r = placeOf (r .lines .image) (r .lines .stash) (r .lines .work) (r .lines .s)
+-- where the turn starts
+abbrev here : Turn → Config
+here r =
+    let l = r .lines in
+    configOf (areasOf (l .image) (l .stash) (l .work))
+    (stateOf (tableAt (l .hashes) (l .sizes) (l .count)) (l .line) (l .at) (l .into) (l .refusal) (start r .args .state .lengths))
 
 -- ---- what is known there
 
+kept : (r : Turn) → Same (machine (textOf r) (termsOf r)) (Fits (textOf r) (termsOf r)) (pieceOf r) (first r) 0 (here r) (r .lines .i)
+kept r = r .lines .inv .5
+
 checks : (c : Line) →
-    Checks (textOf (turn c)) (limitsOf (turn c)) (here (turn c)) (c .before .line-at .result .now) (c .check-line .result)
+    Checks (textOf (turn c)) (termsOf (turn c)) (here (turn c)) (c .before .before .before .line-at .result .now) (c .check-line .result)
 checks c =
     record {
-      going = record { unrefused = c .before .before .before .before .if1 .left; within = c .before .before .if2 .left };
-      line = c .before .line-at .ensures;
+      going = record { unrefused = turn c .lines .inv .3; within = c .before .before .before .before .lines-test .taken };
+      line = c .before .before .before .line-at .ensures;
       result = c .check-line .ensures;
     }
 
-accepted : (c : New) → line c .check-line .result .refusal ≡ 0
-accepted c = c .before .before .before .before .if3 .left
+accepted : (c : New) → line c .check-line .result .refusal ≡ none
+accepted c = c .before .before .before .before .if1 .left
 
-wants-new : (c : New) → wantedBy (line c .check-line .result .line .command) ≡ Target (c .set .given .0 .0)
-wants-new c = sym (c .before .before .wanted-by .ensures) ∙ c .set .given .1
+wants-new : (c : New) → newTarget (line c .check-line .result .line .command) ≡ new.Set (c .set .given .0 .0)
+wants-new c = sym (c .before .before .new-target .ensures) ∙ c .set .given .1
 
-wants-none : (c : tie.After-enum-told Inv-lines μ-lines) → wantedBy (c .before .before .before .before .before .before .check-line .result .line .command) ≡ Nothing
-wants-none c = sym (c .before .before .wanted-by .ensures) ∙ c .enum-told .given .1
+done-accepted : (c : Done) → line-of c .check-line .result .refusal ≡ none
+done-accepted c = c .before .before .before .before .before .before .before .before .before .before .if1 .left
+
+wants-none : (c : Done) → newTarget (line-of c .check-line .result .line .command) ≡ new.None
+wants-none c = sym (c .before .before .before .before .before .before .before .before .new-target .ensures) ∙ c .before .before .before .before .before .before .enum-told .given .1
 
 -- a turn with a `new` that is done
-turns-new : (c : tie.After-pass Inv-lines μ-lines) →
-    let n = new (c .before .before .before .before) in
-    let r = turn (line n) in
-    let x = c .before .before .before .before .before .before .before .take-new in
-    Turned (textOf r) (limitsOf r) (pieceOf r) (first r) (here r)
-    (placeOf (x .last .0) (r .lines .stash) (r .lines .work) (c .pass .result))
-    (x .result)
+turns-new : (c : tie.Else2 Inv-lines μ-lines) →
+    let x = c .before .before .before .before in
+    let l = line (new-at x) in
+    let r = turn l in
+    Turned (textOf r) (termsOf r) (pieceOf r) (first r) (here r)
+    (configOf (areasOf (x .take-new .last .0) (r .lines .stash) (r .lines .work))
+    (stateOf (tableAt (r .lines .hashes) (r .lines .sizes) (r .lines .count)) (r .lines .line + 1)
+    (r .lines .at + length (l .before .before .before .line-at .result .now)) 0 (r .lines .refusal) (start r .args .state .lengths)))
+    (x .take-new .result)
 turns-new c =
-    let n = new (c .before .before .before .before) in
-    let x = c .before .before .before .before .before .before .before .take-new in
-    fills (turn (line n) .lines .inv .3) (checks (line n)) (accepted n) (wants-new n) (x .ensures .0) (x .ensures .1)
-    (c .before .before .before .before .further .ensures)
-    (c .before .if4 .left)
-    (c .pass .ensures)
+    let x = c .before .before .before .before in
+    let n = new-at x in
+    fills (kept (turn (line n))) (checks (line n)) (accepted n) (wants-new n) (x .take-new .ensures .0) (x .take-new .ensures .1) (c .if2 .left)
 
 -- a turn with a command that needs no byte
-turns-command : (c : tie.After-run-command Inv-lines μ-lines) →
-    let r = turn (c .before .before .before .before .before .before .before .before .before .before) in
-    let x = c .run-command in
-    Turned (textOf r) (limitsOf r) (pieceOf r) (first r) (here r)
-    (placeOf (x .last .0) (x .last .1 .0) (x .last .1 .1 .0) (x .result))
+turns-command : (c : tie.After-hold-after Inv-lines μ-lines) →
+    let x = c .before .before .before .before .before .before .before .before .before .before in
+    let l = line-of x in
+    let r = turn l in
+    Turned (textOf r) (termsOf r) (pieceOf r) (first r) (here r)
+    (configOf (areasOf (x .run-command .last .0) (x .run-command .last .1 .0) (x .run-command .last .1 .1 .0))
+    (stateOf (tableAt (c .hold-after .last .0) (c .hold-after .last .1 .0) (c .hold-after .result)) (r .lines .line + 1)
+    (r .lines .at + length (l .before .before .before .line-at .result .now)) 0 (r .lines .refusal) (start r .args .state .lengths)))
     (r .lines .i)
 turns-command c =
-    let d = c .before .before .before .before .before .before .before .before .before .before in
-    let x = c .run-command in
-    runs (turn d .lines .inv .3) (checks d) (c .before .before .before .before .before .before .before .before .if3 .left) (wants-none (c .before .before .before .before)) (x .ensures .0)
-    (x .ensures .1 .0)
-    (x .ensures .1 .1 .0)
-    (x .ensures .1 .1 .1)
+    let x = c .before .before .before .before .before .before .before .before .before .before in
+    let d = line-of x in
+    runs (kept (turn d)) (checks d) (done-accepted x) (wants-none x) (x .run-command .ensures) (c .before .before .before .if3 .left) (c .hold-after .ensures)
 
 -- ---- the needs
 
 lines-holds : tie.Need-lines-holds Inv-lines μ-lines
 lines-holds c =
-    let a = c .before .before .before .before .before in
+    let a = c .before .before .before .before .before .before .before .before .before in
     let s = a .args .list .now in
-    let limits = a .args .limits in
-    (refl, refl, refl, same (machine s limits) (Fits s limits) (fits-sound s limits) (a .args .piece .now) _ 0 (a .pre) (omega arith))
+    let terms = a .args .terms in
+    (refl, refl, refl, a .pre .1, a .good .1 .1 .1 .1 .1 .1 .0 .1 .1 .1 .1 .1 .1 .1 .0 .1, same (machine s terms) (Fits s terms) (fits-sound s terms) (a .args .piece .now) _ 0 (a .pre .0) (omega arith))
 
 line-at-requires : tie.Need-line-at-requires Inv-lines μ-lines
 line-at-requires c κs = tt
@@ -136,11 +161,8 @@ line-at-requires c κs = tt
 check-line-requires : tie.Need-check-line-requires Inv-lines μ-lines
 check-line-requires c κs = tt
 
-refuse-requires : tie.Need-refuse-requires Inv-lines μ-lines
-refuse-requires c κs = tt
-
-wanted-by-requires : tie.Need-wanted-by-requires Inv-lines μ-lines
-wanted-by-requires c κs = tt
+new-target-requires : tie.Need-new-target-requires Inv-lines μ-lines
+new-target-requires c κs = tt
 
 enum-known-set : tie.Need-enum-known-set Inv-lines μ-lines
 enum-known-set c = search needs
@@ -148,110 +170,120 @@ enum-known-set c = search needs
 take-new-requires : tie.Need-take-new-requires Inv-lines μ-lines
 take-new-requires c κs =
     let n = c .before .before in
-    let a = turn (line n) .lines .inv .3 in
+    let a = kept (turn (line n)) in
     (new-in-image (a .keeps) (checks (line n)) (accepted n) (wants-new n) .below, a .within)
 
-sub-further : tie.Need-sub-further Inv-lines μ-lines
-sub-further c = let e = c .before .before .take-new .ensures .0 in omega arith
+sub-into : tie.Need-sub-into Inv-lines μ-lines
+sub-into c = let e = c .before .before .take-new .ensures .0 in omega arith
 
-further-requires : tie.Need-further-requires Inv-lines μ-lines
-further-requires c κs =
-    let n = c .before .before .before .before .before in
+add-into : tie.Need-add-into Inv-lines μ-lines
+add-into c =
+    let x = c .before .before in
+    let n = new-at x in
     let r = turn (line n) in
-    let e = c .before .before .take-new .ensures .0 in
-    let into : r .lines .s .into < 18446744073709551616 = omega (arith, line n .before .before .before .struct-known2 .given) in
-    let k = new-counts (r .lines .inv .3 .keeps) (checks (line n)) (accepted n) (wants-new n) (length (pieceOf r) - r .lines .i) into in
+    let e = x .take-new .ensures .0 in
+    let k = new-counts (kept r .keeps) (checks (line n)) (accepted n) (wants-new n) (length (pieceOf r) - r .lines .i) (r .lines .inv .4) in
     omega (arith, e, k)
 
-pass-requires : tie.Need-pass-requires Inv-lines μ-lines
-unfolding furtherInto
-pass-requires c κs =
-    let d = line (new (c .before .before .before)) in
-    let p = checked-passes (turn d .lines .inv .3 .keeps) (checks d) in
-    rw (c .before .before .before .further .ensures) (p .at, p .line)
+add-at : tie.Need-add-at Inv-lines μ-lines
+add-at c = let l = line (new-at (c .before .before .before .before)) in let k = checked-at (kept (turn l) .keeps) (checks l) in omega arith
+
+add-line : tie.Need-add-line Inv-lines μ-lines
+add-line c = let r = turn (line (new-at (c .before .before .before .before))) in let k = next-line _ _ _ (kept r .keeps) in omega arith
 
 lines-less : tie.Need-lines-less Inv-lines μ-lines
 lines-less c = turns-new c .less
 
 lines-again : tie.Need-lines-again Inv-lines μ-lines
 lines-again c =
-    let r = turn (line (new (c .before .before .before .before))) .lines in
-    (c .before .before .before .before .before .before .before .take-new .kept .0 ∙ r .inv .0, r .inv .1, r .inv .2, turns-new c .same)
+    let x = c .before .before .before .before in
+    let v = turn (line (new-at x)) .lines .inv in
+    (x .take-new .kept .0 ∙ v .0, v .1, v .2, v .3, omega arith, turns-new c .same)
 
 enum-told : tie.Need-enum-told Inv-lines μ-lines
 enum-told c = search needs
 
 run-command-requires : tie.Need-run-command-requires Inv-lines μ-lines
 run-command-requires c κs =
-    let d = c .before .before .before .before .before .before .before .before .before in
-    let f = turn d .lines .inv .3 .keeps in
-    (f .keeps, (checked-runs f (checks d) (c .before .before .before .before .before .before .before .if3 .left), checked-passes f (checks d)))
+    let d = c .before .before .before .before .before .before .before .before .before .before .before in
+    let f = kept (turn d) .keeps in
+    (keeps _ _ _ f, checked-runs f (checks d) (c .before .before .before .before .before .before .before .before .before .if1 .left))
+
+hold-after-requires : tie.Need-hold-after-requires Inv-lines μ-lines
+hold-after-requires c κs = tt
+
+add-at-2 : tie.Need-add-at-2 Inv-lines μ-lines
+add-at-2 c = let l = line-of (c .before .before .before .before .before .before .before .before .before .before) in let k = checked-at (kept (turn l) .keeps) (checks l) in omega arith
+
+add-line-2 : tie.Need-add-line-2 Inv-lines μ-lines
+add-line-2 c = let r = turn (line-of (c .before .before .before .before .before .before .before .before .before .before)) in let k = next-line _ _ _ (kept r .keeps) in omega arith
 
 lines-less-2 : tie.Need-lines-less-2 Inv-lines μ-lines
-lines-less-2 c = turns-command (c .before .before .before .before .before .before) .less
+lines-less-2 c = turns-command c .less
 
 lines-again-2 : tie.Need-lines-again-2 Inv-lines μ-lines
 lines-again-2 c =
-    let x = c .before .before .before .before .before .before in
-    let r = turn (x .before .before .before .before .before .before .before .before .before .before) .lines in
+    let x = c .before .before .before .before .before .before .before .before .before .before in
+    let v = turn (line-of x) .lines .inv in
     let k = x .run-command .kept in
-    (k .0 ∙ r .inv .0, k .1 .0 ∙ r .inv .1, k .1 .1 .0 ∙ r .inv .2, turns-command x .same)
+    (k .0 ∙ v .0, k .1 .0 ∙ v .1, k .1 .1 .0 ∙ v .2, v .3, omega arith, turns-command c .same)
+
+-- ---- where the run ends: the text does, a line is refused, the piece ends, a command stops
 
 same-length : tie.Need-same-length Inv-lines μ-lines
-same-length c = c .before .before .before .lines .inv .0
+same-length c = c .before .lines .inv .0
 
 same-length-2 : tie.Need-same-length-2 Inv-lines μ-lines
-same-length-2 c = c .before .before .before .lines .inv .1
+same-length-2 c = c .before .lines .inv .1
 
 same-length-3 : tie.Need-same-length-3 Inv-lines μ-lines
-same-length-3 c = c .before .before .before .lines .inv .2
+same-length-3 c = c .before .lines .inv .2
 
 returns : tie.Need-returns Inv-lines μ-lines
-returns c = came _ _ (stops-refused (c .before .before .before .lines .inv .3) (c .if1 .taken))
+returns c = came _ _ (stops-finished (kept (c .before)) (c .lines-test .left))
 
 same-length-4 : tie.Need-same-length-4 Inv-lines μ-lines
-same-length-4 c = c .before .before .before .before .before .lines .inv .0
+same-length-4 c = turn (c .before .before) .lines .inv .0
 
 same-length-5 : tie.Need-same-length-5 Inv-lines μ-lines
-same-length-5 c = c .before .before .before .before .before .lines .inv .1
+same-length-5 c = turn (c .before .before) .lines .inv .1
 
 same-length-6 : tie.Need-same-length-6 Inv-lines μ-lines
-same-length-6 c = c .before .before .before .before .before .lines .inv .2
+same-length-6 c = turn (c .before .before) .lines .inv .2
 
 returns-2 : tie.Need-returns-2 Inv-lines μ-lines
-returns-2 c = came _ _ (stops-finished (c .before .before .before .before .before .lines .inv .3) (c .if2 .taken))
+returns-2 c = let d = c .before .before in came _ _ (refuses (kept (turn d)) (checks d) (c .if1 .taken))
 
 same-length-7 : tie.Need-same-length-7 Inv-lines μ-lines
-same-length-7 c = turn (c .before .before .before) .lines .inv .0
+same-length-7 c = let x = c .before .before .before .before in x .take-new .kept .0 ∙ turn (line (new-at x)) .lines .inv .0
 
 same-length-8 : tie.Need-same-length-8 Inv-lines μ-lines
-same-length-8 c = turn (c .before .before .before) .lines .inv .1
+same-length-8 c = turn (line (new-at (c .before .before .before .before))) .lines .inv .1
 
 same-length-9 : tie.Need-same-length-9 Inv-lines μ-lines
-same-length-9 c = turn (c .before .before .before) .lines .inv .2
+same-length-9 c = turn (line (new-at (c .before .before .before .before))) .lines .inv .2
 
 returns-3 : tie.Need-returns-3 Inv-lines μ-lines
 returns-3 c =
-    let d = c .before .before .before in
-    came _ _ (refuses (turn d .lines .inv .3) (checks d) (c .before .if3 .taken) (c .refuse .ensures))
+    let x = c .before .before .before .before in
+    let n = new-at x in
+    came _ _
+    (lacks (kept (turn (line n))) (checks (line n)) (accepted n) (wants-new n) (x .take-new .ensures .0) (x .take-new .ensures .1) (c .if2 .taken))
 
 same-length-10 : tie.Need-same-length-10 Inv-lines μ-lines
-same-length-10 c = c .before .before .before .before .before .before .take-new .kept .0 ∙ turn (line (new (c .before .before .before))) .lines .inv .0
+same-length-10 c = let x = c .before .before .before .before .before .before .before in x .run-command .kept .0 ∙ turn (line-of x) .lines .inv .0
 
 same-length-11 : tie.Need-same-length-11 Inv-lines μ-lines
-same-length-11 c = turn (line (new (c .before .before .before))) .lines .inv .1
+same-length-11 c = let x = c .before .before .before .before .before .before .before in x .run-command .kept .1 .0 ∙ turn (line-of x) .lines .inv .1
 
 same-length-12 : tie.Need-same-length-12 Inv-lines μ-lines
-same-length-12 c = turn (line (new (c .before .before .before))) .lines .inv .2
+same-length-12 c = let x = c .before .before .before .before .before .before .before in x .run-command .kept .1 .1 .0 ∙ turn (line-of x) .lines .inv .2
 
 returns-4 : tie.Need-returns-4 Inv-lines μ-lines
 returns-4 c =
-    let n = new (c .before .before .before) in
-    let x = c .before .before .before .before .before .before .take-new in
-    came _ _
-    (lacks (turn (line n) .lines .inv .3) (checks (line n)) (accepted n) (wants-new n) (x .ensures .0) (x .ensures .1)
-    (c .before .before .before .further .ensures)
-    (c .if4 .taken))
+    let x = c .before .before .before .before .before .before .before in
+    let d = line-of x in
+    came _ _ (halts (kept (turn d)) (checks d) (done-accepted x) (wants-none x) (x .run-command .ensures) (c .if3 .taken))
 
 pub run-lines-spec : {M : Type 1} → statement M
 run-lines-spec =
@@ -262,17 +294,20 @@ run-lines-spec =
     lines-holds
     line-at-requires
     check-line-requires
-    refuse-requires
-    wanted-by-requires
+    new-target-requires
     enum-known-set
     take-new-requires
-    sub-further
-    further-requires
-    pass-requires
+    sub-into
+    add-into
+    add-at
+    add-line
     lines-less
     lines-again
     enum-told
     run-command-requires
+    hold-after-requires
+    add-at-2
+    add-line-2
     lines-less-2
     lines-again-2
     same-length

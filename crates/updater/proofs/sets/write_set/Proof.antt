@@ -1,3 +1,6 @@
+-- `write_set` meets its contract. The loop's invariant: writing the bytes from k on to the blocks that are left leaves what writing all of
+-- them does; there are bytes enough, and the blocks are within the image, whose length is as it was.
+-- Assumes nothing.
 use Prim.Native.Nat.{ℕ, _+_, _-_, _*_, _/_, _≤_}
 use mathlib.Core.Path.{_≡_, refl, sym, ap, subst, _∙_}
 use native.Mathlib.Omega.{arith}
@@ -5,20 +8,19 @@ use lib.ListN.{length, take, drop, length-take, length-drop}
 use borrow.Author.Needs.{needs}
 use mathlib.Core.List.{List, _∷_}
 use lib.Seq.{take-all}
-use Rattle.text.specs.Walk.{blocksAt, remaining, AllBelow}
-use Rattle.text.proofs.WalkLaws.{walk-start, walk-done, walk-block}
+use Rattle.ranges.specs.Walk.{blocksAt, remaining, AllBelow}
+use Rattle.ranges.proofs.WalkLaws.{walk-start, walk-done, walk-block}
+use Rattle.state.specs.Limits.{blockBytes}
 use Rattle.updater.specs.Bytes.{over, written}
 use Rattle.updater.proofs.ByteLaws.{below-next, written-done, written-next}
 use Rattle.updater.proofs.sets.write_set.Statement.{statement}
 use Rattle.updater.proofs.sets.write_set.Tie as tie
 
--- Writing the bytes from k on to the blocks that are left leaves what writing all of them does; there are bytes enough, and the blocks
--- are within the image, whose length is as it was.
 abbrev Inv-loop : tie.InvT-loop
 Inv-loop image₀ l at bytes w₀ k₀ image w k =
     (length image ≡ length image₀)
-    × AllBelow (length image₀ / 4096) (remaining l w)
-    × (k + 4096 * length (remaining l w) ≤ length bytes)
+    × AllBelow (length image₀ / blockBytes) (remaining l w)
+    × (k + blockBytes * length (remaining l w) ≤ length bytes)
     × (written (remaining l w) (drop k bytes) image ≡ written (blocksAt l at) bytes image₀)
 
 abbrev μ-loop : tie.MeasureT-loop
@@ -40,11 +42,11 @@ met : (c : tie.After-b Inv-loop μ-loop) →
 met c = walk-block _ _ (sym (c .before .before .next-block .ensures) ∙ c .b .given .1)
 
 -- .. and within the image
-within : (c : tie.After-b Inv-loop μ-loop) → 4096 * c .b .given .0 .0 + 4096 ≤ length (turn c .loop .image)
-within c = omega (arith, below-next (length (start c .args .image .now) / 4096) (met c) (turn c .loop .inv .1) .0, turn c .loop .inv .0)
+within : (c : tie.After-b Inv-loop μ-loop) → blockBytes * c .b .given .0 .0 + blockBytes ≤ length (turn c .loop .image)
+within c = omega (arith, below-next (length (start c .args .image .now) / blockBytes) (met c) (turn c .loop .inv .1) .0, turn c .loop .inv .0)
 
 -- there are bytes for it
-enough : (c : tie.After-b Inv-loop μ-loop) → turn c .loop .k + 4096 ≤ length (start c .args .bytes .now)
+enough : (c : tie.After-b Inv-loop μ-loop) → turn c .loop .k + blockBytes ≤ length (start c .args .bytes .now)
 enough c = omega (arith, ap length (met c), turn c .loop .inv .2)
 
 walk-from-requires : tie.Need-walk-from-requires Inv-loop μ-loop
@@ -108,7 +110,7 @@ loop-again c =
     let l = turn b .loop in
     let i = l .inv in
     let bytes = start b .args .bytes .now in
-    let e = ap (λ (d : List ℕ). over (l .image) (4096 * b .b .given .0 .0) (take 4096 d)) (rest-whole bytes (l .k)) in (
+    let e = ap (λ (d : List ℕ). over (l .image) (blockBytes * b .b .given .0 .0) (take blockBytes d)) (rest-whole bytes (l .k)) in (
       c .before .before .copy-over .kept .0 ∙ i .0,
       below-next _ (met b) (i .1) .1,
       omega (arith, ap length (met b), i .2),

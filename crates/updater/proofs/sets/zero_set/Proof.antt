@@ -1,36 +1,39 @@
+-- `zero_set` meets its contract. The loop's invariant: zeroing the blocks that are left leaves what zeroing all of them does; they are
+-- within the image, whose length is as it was.
+-- Assumes nothing.
 use Prim.Native.Nat.{ℕ, _+_, _-_, _*_, _/_, _≤_}
 use mathlib.Core.Path.{_≡_, refl, sym, ap, subst, _∙_}
 use native.Mathlib.Omega.{arith}
 use lib.ListN.{length, take, drop, replicate, length-take, length-drop}
 use borrow.Author.Needs.{needs}
 use mathlib.Core.List.{List, _∷_, _++_}
-use Rattle.text.specs.Walk.{blocksAt, remaining, AllBelow}
-use Rattle.text.proofs.WalkLaws.{walk-start, walk-done, walk-block}
+use Rattle.ranges.specs.Walk.{blocksAt, remaining, AllBelow}
+use Rattle.ranges.proofs.WalkLaws.{walk-start, walk-done, walk-block}
+use Rattle.state.specs.Limits.{blockBytes}
 use Rattle.updater.specs.Bytes.{over, zeroed}
 use Rattle.updater.proofs.ByteLaws.{length-over, below-next, zeroed-done, zeroed-next}
 use Rattle.updater.proofs.sets.zero_set.Statement.{statement}
 use Rattle.updater.proofs.sets.zero_set.Tie as tie
 
--- Zeroing the blocks that are left leaves what zeroing all of them does; they are within the image, whose length is as it was.
 abbrev Inv-loop : tie.InvT-loop
 Inv-loop image₀ l at w₀ image w =
     (length image ≡ length image₀)
-    × AllBelow (length image₀ / 4096) (remaining l w)
+    × AllBelow (length image₀ / blockBytes) (remaining l w)
     × (zeroed (remaining l w) image ≡ zeroed (blocksAt l at) image₀)
 
 abbrev μ-loop : tie.MeasureT-loop
 μ-loop image₀ l at w₀ image w = length (remaining l w)
 
 -- zeros over a lent block: the image when the block is back
-zeros-back : (image part : List ℕ) (b : ℕ) → 4096 * b + 4096 ≤ length image →
-    part ≡ replicate (length (take (4096 * b + 4096 - 4096 * b) (drop (4096 * b) image))) 0 →
-    take (4096 * b) image ++ (part ++ drop (4096 * b + 4096 - 4096 * b) (drop (4096 * b) image))
-    ≡ over image (4096 * b) (replicate 4096 0)
+zeros-back : (image part : List ℕ) (b : ℕ) → blockBytes * b + blockBytes ≤ length image →
+    part ≡ replicate (length (take (blockBytes * b + blockBytes - blockBytes * b) (drop (blockBytes * b) image))) 0 →
+    take (blockBytes * b) image ++ (part ++ drop (blockBytes * b + blockBytes - blockBytes * b) (drop (blockBytes * b) image))
+    ≡ over image (blockBytes * b) (replicate blockBytes 0)
 zeros-back image part b h e =
-    let n : 4096 * b + 4096 - 4096 * b ≡ 4096 = omega arith in
-    let l : length (take (4096 * b + 4096 - 4096 * b) (drop (4096 * b) image)) ≡ 4096 =
+    let n : blockBytes * b + blockBytes - blockBytes * b ≡ blockBytes = omega arith in
+    let l : length (take (blockBytes * b + blockBytes - blockBytes * b) (drop (blockBytes * b) image)) ≡ blockBytes =
     simp (length-take, length-drop) (omega arith) in
-    let f : part ≡ replicate 4096 0 = e ∙ ap (λ (k : ℕ). replicate k 0) l in
+    let f : part ≡ replicate blockBytes 0 = e ∙ ap (λ (k : ℕ). replicate k 0) l in
     rw (n, f)
 
 abbrev start : tie.After-b Inv-loop μ-loop → tie.Start Inv-loop μ-loop
@@ -46,10 +49,10 @@ met : (c : tie.After-b Inv-loop μ-loop) →
 met c = walk-block _ _ (sym (c .before .before .next-block .ensures) ∙ c .b .given .1)
 
 -- .. and within the image
-within : (c : tie.After-b Inv-loop μ-loop) → 4096 * c .b .given .0 .0 + 4096 ≤ length (turn c .loop .image)
+within : (c : tie.After-b Inv-loop μ-loop) → blockBytes * c .b .given .0 .0 + blockBytes ≤ length (turn c .loop .image)
 within c =
     let i = turn c .loop .inv in
-    omega (arith, below-next (length (start c .args .image .now) / 4096) (met c) (i .1) .0, i .0)
+    omega (arith, below-next (length (start c .args .image .now) / blockBytes) (met c) (i .1) .0, i .0)
 
 walk-from-requires : tie.Need-walk-from-requires Inv-loop μ-loop
 walk-from-requires c κs = tt
@@ -106,7 +109,7 @@ loop-again c =
     let b = c .before .before .before .before .before in
     let i = turn b .loop .inv in
     let e = zeros-back _ _ _ (within b) (c .before .before .zero-all .ensures) in (
-      ap length e ∙ length-over (turn b .loop .image) (4096 * b .b .given .0 .0) (replicate 4096 0) (within b) ∙ i .0,
+      ap length e ∙ length-over (turn b .loop .image) (blockBytes * b .b .given .0 .0) (replicate blockBytes 0) (within b) ∙ i .0,
       below-next _ (met b) (i .1) .1,
       zeroed-next (met b) _ e ∙ i .2,
     )

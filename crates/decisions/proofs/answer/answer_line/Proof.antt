@@ -1,0 +1,53 @@
+-- `answer::answer_line` meets its contract: each outcome is a case of `answerLine`. Assumes nothing.
+use borrow.Author.Needs.{needs}
+use Rattle.decisions.proofs.answer.answer_line.Statement.{statement}
+use Rattle.decisions.proofs.answer.answer_line.Tie as tie
+
+enum-told : tie.Need-enum-told
+enum-told c = search needs
+
+slice-aggregate-taken-line : tie.Need-slice-aggregate-taken-line
+slice-aggregate-taken-line c = search needs
+
+taken-line-requires : tie.Need-taken-line-requires
+taken-line-requires c κs = search needs
+
+enum-told-2 : tie.Need-enum-told-2
+enum-told-2 c = search needs
+
+slice-aggregate-taken-line-2 : tie.Need-slice-aggregate-taken-line-2
+slice-aggregate-taken-line-2 c = search needs
+
+taken-line-requires-2 : tie.Need-taken-line-requires-2
+taken-line-requires-2 c κs = search needs
+
+enum-known-outcome : tie.Need-enum-known-outcome
+enum-known-outcome c = search needs
+
+refused-line-requires : tie.Need-refused-line-requires
+refused-line-requires c κs = search needs
+
+returns : tie.Need-returns
+returns c = rw (c .before .before .enum-told .given .1) (c .taken-line .ensures)
+
+returns-2 : tie.Need-returns-2
+returns-2 c = rw (c .before .before .enum-told2 .given .1) (c .taken-line2 .ensures)
+
+returns-3 : tie.Need-returns-3
+returns-3 c = rw (c .before .before .outcome .given .1) (c .refused-line .ensures)
+
+pub answer-line-spec : {M : Type 1} → statement M
+answer-line-spec =
+    tie.close
+    (tie.spec
+    enum-told
+    slice-aggregate-taken-line
+    taken-line-requires
+    enum-told-2
+    slice-aggregate-taken-line-2
+    taken-line-requires-2
+    enum-known-outcome
+    refused-line-requires
+    returns
+    returns-2
+    returns-3)

@@ -1,0 +1,68 @@
+-- Document 01, "Calls", last paragraph: the line that the program prints.
+-- Assumes nothing: these are definitions.
+use Prim.Native.Nat.{ℕ, zero, suc, _/_, _%_}
+use mathlib.Core.Path.{_≡_, refl}
+use mathlib.Core.List.{List, [], _∷_, _++_}
+use lib.ListN.{length, drop, replicate}
+use lib.Dec.{ltb}
+use Rattle.io.specs.Digits.{glyph}
+use Rattle.text.specs.Choice.{pick}
+use Rattle.updater.specs.declared.Outcome.{Outcome}
+use Rattle.updater.specs.declared.Outcome.the-variants.{Done, More, Refused}
+use Rattle.decisions.specs.declared.answer.Line.{Line}
+
+-- n / 10 in decimal, unless it is 0, and then n's last digit; each turn makes n smaller, so n + 1 turns are enough
+unfoldable pub decimalIn : ℕ → ℕ → List ℕ
+decimalIn zero n = []
+decimalIn (suc turns) n = pick (ltb n 10) [] (decimalIn turns (n / 10)) ++ (glyph (n % 10) ∷ [])
+
+-- a number in decimal, with no leading zero
+unfoldable pub decimal : ℕ → List ℕ
+decimal n = decimalIn (suc n) n
+
+-- `done `
+abbrev pub doneWord : List ℕ
+doneWord = 100 ∷ 111 ∷ 110 ∷ 101 ∷ 32 ∷ []
+
+-- `more `
+abbrev pub moreWord : List ℕ
+moreWord = 109 ∷ 111 ∷ 114 ∷ 101 ∷ 32 ∷ []
+
+-- `refused `
+abbrev pub refusedWord : List ℕ
+refusedWord = 114 ∷ 101 ∷ 102 ∷ 117 ∷ 115 ∷ 101 ∷ 100 ∷ 32 ∷ []
+
+-- a word, the bytes taken and an LF
+abbrev pub takenLine : List ℕ → ℕ → List ℕ
+takenLine word taken = word ++ (decimal taken ++ (10 ∷ []))
+
+-- `refused`, the number, the line and an LF
+abbrev pub refusedLine : ℕ → ℕ → List ℕ
+refusedLine number line = refusedWord ++ (decimal number ++ ((32 ∷ []) ++ (decimal line ++ (10 ∷ []))))
+
+-- `done T`, `more T` or `refused K L`
+abbrev pub answerLine : Outcome → ℕ → List ℕ
+answerLine Done taken = takenLine doneWord taken
+answerLine More taken = takenLine moreWord taken
+answerLine (Refused refusal) taken = refusedLine (refusal .number) (refusal .line)
+
+-- the most digits of a 64-bit number
+abbrev pub mostDigits : ℕ
+mostDigits = 20
+
+-- a text at the start of a buffer, and past it what stood there
+abbrev pub over : List ℕ → List ℕ → List ℕ
+over text buf = text ++ drop (length text) buf
+
+-- no line is longer than 50 bytes
+abbrev pub zeros : List ℕ
+zeros = replicate 50 0
+
+-- a line at the start of zeros
+unfoldable pub lineOf : List ℕ → Line
+lineOf text = record { bytes = over text zeros; length = length text }
+
+-- case 14 prints exactly `done 0`
+pub prints-done-0 : answerLine Done 0 ≡ 100 ∷ 111 ∷ 110 ∷ 101 ∷ 32 ∷ 48 ∷ 10 ∷ []
+unfolding decimal decimalIn
+prints-done-0 = refl

@@ -1,0 +1,51 @@
+-- Document 01, "Calls", last paragraph: what the program decides about its files.
+-- Assumes nothing: these are definitions.
+use Prim.Native.Nat.{ℕ, _*_, _%_}
+use mathlib.Core.Bool.{Bool, false}
+use mathlib.Core.List.{List}
+use lib.Dec.{eqb, leb}
+use Rattle.text.specs.Choice.{pick, both, no}
+use Rattle.state.specs.Limits.{blockBytes}
+use Rattle.state.specs.Refusals.{none, areaSize, listLength}
+use Rattle.state.specs.declared.Refusal.{Refusal}
+use Rattle.state.specs.declared.State.{State}
+use Rattle.transfer_list.specs.Opening.{lengthsOf, openState}
+use Rattle.updater.specs.declared.Outcome.{Outcome}
+use Rattle.updater.specs.declared.Outcome.the-variants.{Done, More, Refused}
+
+-- a list of at most 4,096 bytes
+abbrev pub mostList : ℕ
+mostList = 4096
+
+-- an image of at most 8 blocks
+abbrev pub mostImage : ℕ
+mostImage = 8 * blockBytes
+
+-- areas of 3 blocks each
+abbrev pub areaBytes : ℕ
+areaBytes = 3 * blockBytes
+
+-- new data in pieces of 4,096 bytes
+abbrev pub pieceBytes : ℕ
+pieceBytes = 4096
+
+-- whole blocks, at most 8
+abbrev pub isImage : ℕ → Bool
+isImage bytes = both (eqb (bytes % blockBytes) 0) (leb bytes mostImage)
+
+-- 1 for an image that is larger or not whole blocks, else 2 for a list that is longer, each with line 0; else none
+abbrev pub sizeRefusal : ℕ → ℕ → Refusal
+sizeRefusal list image =
+    pick (no (isImage image)) (record { number = areaSize; line = 0 })
+    (pick (no (leb list mostList)) (record { number = listLength; line = 0 })
+    (record { number = none; line = 0 }))
+
+-- the list is opened over areas of 3 blocks each
+abbrev pub openedWith : List ℕ → ℕ → State
+openedWith s image = openState s (lengthsOf s image areaBytes areaBytes)
+
+-- after a call with a piece of n bytes there is another where the list wants more, unless the piece was the data's end
+abbrev pub callsOn : Outcome → ℕ → Bool
+callsOn More n = no (eqb n 0)
+callsOn Done n = false
+callsOn (Refused refusal) n = false

@@ -1,0 +1,78 @@
+// The answer line.
+ghost use Prim.Native.Nat.{_+_, _≤_};
+ghost use mathlib.Core.Path.{_≡_};
+ghost use lib.ListN.{length};
+ghost use lib.Seq.{paste};
+ghost use Rattle.io.specs.Counts.{Counts};
+ghost use Rattle.decisions.specs.Answer.{decimal, mostDigits, doneWord, takenLine, refusedLine, answerLine, lineOf};
+use updater::Outcome;
+
+// `refused `, two numbers, the space between them and an LF.
+const LINE_BYTES: usize = 50;
+
+// A line at the start of a buffer, with zeros past it.
+pub struct Line {
+    pub bytes: [u8; LINE_BYTES],
+    pub length: usize,
+}
+
+// Puts a text at a place of a buffer, and answers where it ends.
+fn put(out: &mut [u8], at: usize, text: &[u8]) -> usize
+    requires { ⌜ at + length (now text) ≤ length (now out) ⌝ }
+    ensures { λ r. ⌜ r ≡ at + length (now (text .entry)) ⌝ }
+    ensures { λ _. ⌜ now (out .exit) ≡ paste (now (out .entry)) at (now (text .entry)) (length (now (text .entry))) ⌝ }
+{
+    let mut i = 0;
+    while i < text.len() {
+        out[at + i] = text[i];
+        i += 1;
+    }
+    at + i
+}
+
+fn put_decimal(out: &mut [u8], at: usize, n: u64) -> usize
+    requires { ⌜ at + mostDigits ≤ length (now out) ⌝ }
+    ensures { λ r. ⌜ (r ≡ at + length (decimal n)) × (r ≤ at + mostDigits) ⌝ }
+    ensures { λ _. ⌜ now (out .exit) ≡ paste (now (out .entry)) at (decimal n) (length (decimal n)) ⌝ }
+{
+    let mut digits = [0u8; 20];
+    let k = io::decimal(n, &mut digits);
+    put(out, at, &digits[..k])
+}
+
+fn taken_line(word: &[u8], taken: u64) -> Line
+    requires { ⌜ length (now word) ≤ length doneWord ⌝ }
+    ensures { λ r. ⌜ r ≡ lineOf (takenLine (now (word .entry)) taken) ⌝ }
+    ensures { λ r. ⌜ Counts (r .length) (r .bytes) ⌝ }
+{
+    let mut bytes = [0u8; LINE_BYTES];
+    let a = put(&mut bytes, 0, word);
+    let b = put_decimal(&mut bytes, a, taken);
+    let length = put(&mut bytes, b, b"\n");
+    Line { bytes, length }
+}
+
+fn refused_line(number: usize, line: usize) -> Line
+    ensures { λ r. ⌜ r ≡ lineOf (refusedLine number line) ⌝ }
+    ensures { λ r. ⌜ Counts (r .length) (r .bytes) ⌝ }
+{
+    let mut bytes = [0u8; LINE_BYTES];
+    let a = put(&mut bytes, 0, b"refused ");
+    let b = put_decimal(&mut bytes, a, number as u64);
+    let c = put(&mut bytes, b, b" ");
+    let d = put_decimal(&mut bytes, c, line as u64);
+    let length = put(&mut bytes, d, b"\n");
+    Line { bytes, length }
+}
+
+// What is printed for an outcome and all bytes taken.
+pub fn answer_line(outcome: Outcome, taken: u64) -> Line
+    ensures { λ r. ⌜ r ≡ lineOf (answerLine outcome taken) ⌝ }
+    ensures { λ r. ⌜ Counts (r .length) (r .bytes) ⌝ }
+{
+    match outcome {
+        Outcome::Done => taken_line(b"done ", taken),
+        Outcome::More => taken_line(b"more ", taken),
+        Outcome::Refused(refusal) => refused_line(refusal.number, refusal.line),
+    }
+}

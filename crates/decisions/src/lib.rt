@@ -1,0 +1,66 @@
+// What is decided about the files of an update.
+ghost use mathlib.Core.Path.{_≡_};
+ghost use Rattle.decisions.specs.Program.{isImage, sizeRefusal, openedWith, callsOn};
+use state::Refusal;
+use state::State;
+use state::limits::BLOCK_BYTES;
+use state::refusals::AREA_SIZE;
+use state::refusals::LIST_LENGTH;
+use updater::Outcome;
+
+pub mod answer;
+
+pub const LIST_BYTES: usize = 4096;
+
+pub const IMAGE_BYTES: usize = 8 * BLOCK_BYTES;
+
+pub const AREA_BYTES: usize = 3 * BLOCK_BYTES;
+
+// Whole blocks, and not over the most.
+fn is_image(bytes: usize) -> bool
+    ensures { λ r. ⌜ r ≡ isImage bytes ⌝ }
+{
+    if bytes % BLOCK_BYTES != 0 {
+        return false;
+    }
+    bytes <= IMAGE_BYTES
+}
+
+// The refusal for the lengths of list and image; number 0 for none.
+pub fn size_refusal(list: usize, image: usize) -> Refusal
+    ensures { λ r. ⌜ r ≡ sizeRefusal list image ⌝ }
+{
+    let image_fits = is_image(image);
+    let list_fits = list <= LIST_BYTES;
+    if !image_fits {
+        return Refusal {
+            number: AREA_SIZE,
+            line: 0,
+        };
+    }
+    if !list_fits {
+        return Refusal {
+            number: LIST_LENGTH,
+            line: 0,
+        };
+    }
+    Refusal { number: 0, line: 0 }
+}
+
+// Opens the list over an image of that length and the program's own areas.
+pub fn open_list(list: &[u8], image: usize) -> State
+    ensures { λ r. ⌜ r ≡ openedWith (now (list .entry)) image ⌝ }
+{
+    transfer_list::open(list, image, AREA_BYTES, AREA_BYTES)
+}
+
+// Whether the next piece is read, after a call with one of n bytes.
+pub fn calls_on(outcome: Outcome, n: usize) -> bool
+    ensures { λ r. ⌜ r ≡ callsOn outcome n ⌝ }
+{
+    match outcome {
+        Outcome::More => n != 0,
+        Outcome::Done => false,
+        Outcome::Refused(_) => false,
+    }
+}

@@ -1,0 +1,2 @@
+pub mod MachineLaws
+pub mod LoopLaws

@@ -1,0 +1,152 @@
+// An update in three files: a transfer list, an image and new data. They are read, the list is run over the image in memory, and the
+// image is written back.
+//
+// No contract can speak of a file. What is decided about files is in the crate `decisions`, where each function has its equation.
+ghost use Prim.Native.Nat.{_≤_};
+ghost use lib.ListN.{length};
+ghost use Rattle.io.specs.Counts.{Counts};
+ghost use Rattle.decisions.specs.Program.{pieceBytes};
+use crate::read::Loaded;
+use crate::read::Opened;
+use crate::read::check_opened;
+use crate::read::fill;
+use crate::read::load;
+use crate::write_back::write_back;
+use decisions::AREA_BYTES;
+use decisions::IMAGE_BYTES;
+use decisions::LIST_BYTES;
+use decisions::answer::answer_line;
+use decisions::calls_on;
+use decisions::open_list;
+use decisions::size_refusal;
+use libc::STDOUT_FILENO;
+use state::Refusal;
+use state::State;
+use updater::Outcome;
+use updater::call;
+
+mod read;
+mod write_back;
+
+// A buffer has room for one byte too many, which tells a file that is too long.
+const LIST_ROOM: usize = LIST_BYTES + 1;
+
+const IMAGE_ROOM: usize = IMAGE_BYTES + 1;
+
+const PIECE_BYTES: usize = 4096;
+
+// What the calls came to, or that the new data could not be read.
+enum Ran {
+    To(Outcome, u64),
+    Failed,
+}
+
+fn refused(refusal: Refusal) -> Outcome {
+    Outcome::Refused(refusal)
+}
+
+fn say(outcome: Outcome, taken: u64) {
+    let line = answer_line(outcome, taken);
+    let bytes = line.bytes;
+    let n = line.length;
+    io::write_all(STDOUT_FILENO, &bytes[..n]);
+}
+
+// One call for each piece; the first piece is read already. The turns are counted, since nothing says that a file ends.
+fn run(
+    list: &[u8],
+    image: &mut [u8],
+    piece: &mut [u8],
+    first: usize,
+    data: i32,
+    data_path: &[u8],
+    opened: State,
+) -> Ran
+    requires { ⌜ Counts first (now piece) × (length (now piece) ≤ pieceBytes) ⌝ }
+{
+    let mut stash = [0u8; AREA_BYTES];
+    let mut work = [0u8; AREA_BYTES];
+    let mut s = opened;
+    let mut n = first;
+    let mut taken: u64 = 0;
+    let mut turns: u64 = 1 << 40;
+    while 0 < turns {
+        let called = call(list, image, &mut stash, &mut work, &piece[..n], s);
+        s = called.state;
+        taken += called.taken as u64;
+        let outcome = called.outcome;
+        if !calls_on(outcome, n) {
+            return Ran::To(outcome, taken);
+        }
+        let Loaded::Bytes(next) = fill(data, data_path, piece) else {
+            return Ran::Failed;
+        };
+        n = next;
+        turns -= 1;
+    }
+    Ran::To(Outcome::More, taken)
+}
+
+// Every file is read before anything is decided, the new data as far as its first piece.
+fn update_opened(
+    list: &[u8],
+    image_file: i32,
+    image_path: &[u8],
+    data: i32,
+    data_path: &[u8],
+    copy_path: &[u8],
+) {
+    let mut image = [0u8; IMAGE_ROOM];
+    let mut piece = [0u8; PIECE_BYTES];
+    let Loaded::Bytes(m) = fill(image_file, image_path, &mut image) else {
+        return;
+    };
+    let Loaded::Bytes(n) = fill(data, data_path, &mut piece) else {
+        return;
+    };
+    let size = size_refusal(list.len(), m);
+    if size.number != 0 {
+        say(refused(size), 0);
+        return;
+    }
+    let opened = open_list(list, m);
+    let refusal = opened.refusal;
+    if refusal.number != 0 {
+        say(refused(refusal), 0);
+        return;
+    }
+    let ran = run(
+        list,
+        &mut image[..m],
+        &mut piece,
+        n,
+        data,
+        data_path,
+        opened,
+    );
+    let Ran::To(outcome, taken) = ran else {
+        return;
+    };
+    if write_back(image_file, image_path, copy_path, &image[..m]) {
+        say(outcome, taken);
+    }
+}
+
+// Applies an update and prints the answer line. A file that is there and cannot be read, or an image that cannot be written, gets a
+// message on standard error instead. The copy is what is about to be written, kept while the image is written.
+pub fn update(list_path: &[u8], image_path: &[u8], data_path: &[u8], copy_path: &[u8]) {
+    let mut list = [0u8; LIST_ROOM];
+    let Loaded::Bytes(n) = load(list_path, &mut list) else {
+        return;
+    };
+    let Opened::At(image) = check_opened(os::open_update(image_path), image_path) else {
+        return;
+    };
+    let Opened::At(data) = check_opened(os::open_read(data_path), data_path) else {
+        libc::close(image);
+        return;
+    };
+    update_opened(&list[..n], image, image_path, data, data_path, copy_path);
+    libc::close(data);
+    libc::close(image);
+}

@@ -1,0 +1,35 @@
+-- `possible::same_lengths` meets its contract: each test is a part of `sameLengths`.
+-- Assumes nothing.
+use borrow.Author.Tests.{eq-eqb, ne-eqb}
+use Rattle.possible.specs.Possible.{sameLengths}
+use Rattle.possible.proofs.same_lengths.Statement.{statement}
+use Rattle.possible.proofs.same_lengths.Tie as tie
+
+returns : tie.Need-returns
+unfolding sameLengths
+returns c = rw (ne-eqb _ _ (c .if1 .taken))
+
+returns-2 : tie.Need-returns-2
+unfolding sameLengths
+returns-2 c = rw (eq-eqb _ _ (c .before .before .before .if1 .left), ne-eqb _ _ (c .if2 .taken))
+
+returns-3 : tie.Need-returns-3
+unfolding sameLengths
+returns-3 c =
+    rw (
+      eq-eqb _ _ (c .before .before .before .before .before .before .if1 .left),
+      eq-eqb _ _ (c .before .before .before .if2 .left),
+      ne-eqb _ _ (c .if3 .taken),
+    )
+
+returns-4 : tie.Need-returns-4
+unfolding sameLengths
+returns-4 c =
+    rw (
+      eq-eqb _ _ (c .before .before .before .before .before .before .before .before .if1 .left),
+      eq-eqb _ _ (c .before .before .before .before .before .if2 .left),
+      eq-eqb _ _ (c .before .before .if3 .left),
+    )
+
+pub same-lengths-spec : {M : Type 1} → statement M
+same-lengths-spec = tie.close (tie.spec returns returns-2 returns-3 returns-4)

@@ -1,0 +1,173 @@
+-- What a good pair, good pairs and a good range set are made of; where they end, and that a pair's start is not past its end.
+-- Assumes nothing.
+use mathlib.Core.Path.{_≡_, refl, sym, _∙_}
+use mathlib.Core.Bool.{Bool, true, false}
+use Prim.Native.Nat.{ℕ, zero, suc, _+_, _/_, _≤_, _<_}
+use native.Mathlib.Omega.{arith}
+use mathlib.Core.List.{List, _∷_}
+use lib.ListN.{length}
+use borrow.Author.Tests.{leb-true}
+use Rattle.text.specs.Choice.{pick}
+use Rattle.text.specs.Expected.{comma, stands}
+use Rattle.text.specs.Number.{numberAt, onNumber}
+use Rattle.text.specs.declared.number.Number.{Number}
+use Rattle.text.specs.declared.number.Number.the-variants as number
+use Rattle.ranges.specs.declared.Pair.{Pair}
+use Rattle.ranges.specs.declared.Pair.the-variants as pair
+use Rattle.ranges.specs.declared.RangeSet.{RangeSet}
+use Rattle.ranges.specs.declared.Ranges.{Ranges}
+use Rattle.ranges.specs.declared.Ranges.the-variants as ranges
+use Rattle.ranges.specs.Ranges.{Range, itemAt, isRange, pairAt, onPair, Parsed, ok, fault, follow, pairsAt, isCount, setAt, sizeOf, endOf, summary, rangesAt, onRanges}
+use Rattle.text.proofs.NumberLaws.{number-next}
+
+-- a good item is a number past a comma
+item-good : (s : List ℕ) (at : ℕ) {v next : ℕ} → itemAt s at ≡ number.Good v next → numberAt s (at + 1) ≡ number.Good v next
+unfolding itemAt
+item-good s at {v} {next} = go (stands s at comma)
+  where
+    go : (t : Bool) → pick t (numberAt s (at + 1)) (number.Bad at) ≡ number.Good v next → numberAt s (at + 1) ≡ number.Good v next
+    go true e = e
+    go false e = absurd (let z : _≡_ {A = ℕ} 0 1 = cc in omega arith)
+
+pub item-next : (s : List ℕ) (at : ℕ) {v next : ℕ} → itemAt s at ≡ number.Good v next → (at < next) × (next ≤ length s)
+item-next s at e = let h = number-next s (at + 1) (item-good s at e) in (omega arith, h .1)
+
+-- a good pair is two good items, in order
+record Items (s : List ℕ) (at start end next : ℕ) : Type 0 where
+  middle : ℕ
+  first : itemAt s at ≡ number.Good start middle
+  second : itemAt s middle ≡ number.Good end next
+  order : start ≤ end
+
+pair-good : (s : List ℕ) (at : ℕ) {start end next : ℕ} → pairAt s at ≡ pair.Good start end next → Items s at start end next
+unfolding pairAt
+pair-good s at {start} {end} {next} = go (itemAt s at) refl
+  where
+    test : (a b i m : ℕ) (t : Bool) → itemAt s at ≡ number.Good a i → itemAt s i ≡ number.Good b m → isRange a b ≡ t →
+        pick t (pair.Good a b m) (pair.Bad i) ≡ pair.Good start end next → Items s at start end next
+    test a b i m true e f l g =
+        let p : a ≡ start = cc in
+        let q : b ≡ end = cc in
+        record { middle = i; first = cc; second = cc; order = omega (arith, leb-true a b l) }
+    test a b i m false e f l g = absurd (let z : _≡_ {A = ℕ} 0 1 = cc in omega arith)
+
+    then : (a i : ℕ) (n : Number) → itemAt s at ≡ number.Good a i → itemAt s i ≡ n →
+        onNumber n (λ b m. pick (isRange a b) (pair.Good a b m) (pair.Bad i)) pair.Bad ≡ pair.Good start end next → Items s at start end next
+    then a i (number.Good b m) e f g = test a b i m (isRange a b) e f refl g
+    then a i (number.Bad p) e f g = absurd (let z : _≡_ {A = ℕ} 0 1 = cc in omega arith)
+
+    go : (n : Number) → itemAt s at ≡ n →
+        onNumber n (λ a i. onNumber (itemAt s i) (λ b m. pick (isRange a b) (pair.Good a b m) (pair.Bad i)) pair.Bad) pair.Bad
+        ≡ pair.Good start end next → Items s at start end next
+    go (number.Good a i) e g = then a i (itemAt s i) e refl g
+    go (number.Bad p) e g = absurd (let z : _≡_ {A = ℕ} 0 1 = cc in omega arith)
+
+module _ (s : List ℕ) (at : ℕ) {start end next : ℕ} (e : pairAt s at ≡ pair.Good start end next) where
+  pub pair-order : start ≤ end
+  pair-order = pair-good s at e .order
+
+  pub pair-next : (at < next) × (next ≤ length s)
+  pair-next =
+      let i = pair-good s at e in
+      let h = item-next s at (i .first) in
+      let l = item-next s (i .middle) (i .second) in
+      (omega arith, l .1)
+
+-- good pairs are a good pair and good pairs
+pub record Pairs (n : ℕ) (s : List ℕ) (at : ℕ) (rs : List Range) (next : ℕ) : Type 0 where
+  pub start : ℕ
+  pub end : ℕ
+  pub middle : ℕ
+  pub rest : List Range
+  pub first : pairAt s at ≡ pair.Good start end middle
+  pub then : pairsAt n s middle ≡ ok rest next
+  pub whole : rs ≡ record { start = start; end = end } ∷ rest
+
+pub pairs-good : (n : ℕ) (s : List ℕ) (at : ℕ) {rs : List Range} {next : ℕ} → pairsAt (suc n) s at ≡ ok rs next → Pairs n s at rs next
+unfolding pairsAt
+pairs-good n s at {rs} {next} = go (pairAt s at) refl
+  where
+    more : (a b i : ℕ) (q : Parsed) → pairAt s at ≡ pair.Good a b i → pairsAt n s i ≡ q →
+        follow (record { start = a; end = b }) q ≡ ok rs next → Pairs n s at rs next
+    more a b i (ok ys m) e f g = record { start = a; end = b; middle = i; rest = ys; first = e; then = cc; whole = cc }
+    more a b i (fault p) e f g = absurd (let z : _≡_ {A = ℕ} 0 1 = cc in omega arith)
+
+    go : (p : Pair) → pairAt s at ≡ p →
+        onPair p (λ start end i. follow (record { start = start; end = end }) (pairsAt n s i)) fault ≡ ok rs next → Pairs n s at rs next
+    go (pair.Good a b i) e g = more a b i (pairsAt n s i) e refl g
+    go (pair.Bad p) e g = absurd (let z : _≡_ {A = ℕ} 0 1 = cc in omega arith)
+
+pairs-next : (n : ℕ) (s : List ℕ) (at : ℕ) {rs : List Range} {next : ℕ} → at ≤ length s → pairsAt n s at ≡ ok rs next →
+    (at ≤ next) × (next ≤ length s)
+unfolding pairsAt
+pairs-next zero s at {rs} {next} h e = let z : at ≡ next = cc in (omega arith, omega arith)
+pairs-next (suc n) s at h e =
+    let p = pairs-good n s at e in
+    let l = pair-next s at (p .first) in
+    let k = pairs-next n s (p .middle) (l .1) (p .then) in
+    (omega arith, k .1)
+
+-- a good set is a good count and half as many good pairs
+pub record Counted (s : List ℕ) (at : ℕ) (rs : List Range) (next : ℕ) : Type 0 where
+  pub count : ℕ
+  pub from : ℕ
+  pub number : numberAt s at ≡ number.Good count from
+  pub even : isCount count ≡ true
+  pub pairs : pairsAt (count / 2) s from ≡ ok rs next
+
+pub set-good : (s : List ℕ) (at : ℕ) {rs : List Range} {next : ℕ} → setAt s at ≡ ok rs next → Counted s at rs next
+unfolding setAt
+set-good s at {rs} {next} = go (numberAt s at) refl
+  where
+    test : (v i : ℕ) (t : Bool) → numberAt s at ≡ number.Good v i → isCount v ≡ t →
+        pick t (pairsAt (v / 2) s i) (fault at) ≡ ok rs next → Counted s at rs next
+    test v i true e l g = record { count = v; from = i; number = e; even = l; pairs = g }
+    test v i false e l g = absurd (let z : _≡_ {A = ℕ} 0 1 = cc in omega arith)
+
+    go : (n : Number) → numberAt s at ≡ n →
+        onNumber n (λ v i. pick (isCount v) (pairsAt (v / 2) s i) (fault at)) fault ≡ ok rs next → Counted s at rs next
+    go (number.Good v i) e g = test v i (isCount v) e refl g
+    go (number.Bad p) e g = absurd (let z : _≡_ {A = ℕ} 0 1 = cc in omega arith)
+
+-- what is kept of a good set
+pub record Kept (s : List ℕ) (at : ℕ) (set : RangeSet) (next : ℕ) : Type 0 where
+  pub ranges : List Range
+  pub text : setAt s at ≡ ok ranges next
+  pub place : set .at ≡ at
+  pub blocks : set .blocks ≡ sizeOf ranges
+  pub end : set .end ≡ endOf ranges
+
+module _ (s : List ℕ) (at : ℕ) {set : RangeSet} {next : ℕ} (e : rangesAt s at ≡ ranges.Good set next) where
+  pub ranges-good : Kept s at set next
+  unfolding rangesAt summary
+  ranges-good = go (setAt s at) refl e
+    where
+      go : (q : Parsed) → setAt s at ≡ q → summary at q ≡ ranges.Good set next → Kept s at set next
+      go (ok rs m) f g =
+          let z : record { at = at; blocks = sizeOf rs; end = endOf rs } ≡ set = cc in
+          record { ranges = rs; text = cc; place = cc; blocks = cc; end = cc }
+      go (fault p) f g = absurd (let z : _≡_ {A = ℕ} 0 1 = cc in omega arith)
+
+  pub ranges-at : set .at ≡ at
+  ranges-at = ranges-good .place
+
+  pub ranges-next : (at < next) × (next ≤ length s)
+  ranges-next =
+      let c = set-good s at (ranges-good .text) in
+      let h = number-next s at (c .number) in
+      let l = pairs-next (c .count / 2) s (c .from) (h .1) (c .pairs) in
+      (omega arith, l .1)
+
+-- ---- what follows a range set: by cases, and where m was read, which is x
+pub on-ranges : {A : Type 0} (P : A → Type 0) (x : Ranges) (good : RangeSet → ℕ → A) (bad : ℕ → A) →
+    ((set : RangeSet) (next : ℕ) → x ≡ ranges.Good set next → P (good set next)) → ((p : ℕ) → x ≡ ranges.Bad p → P (bad p)) →
+    P (onRanges x good bad)
+on-ranges P (ranges.Good set next) good bad f g = f set next refl
+on-ranges P (ranges.Bad p) good bad f g = g p refl
+
+module _ {A : Type 0} {a : A} (x : Ranges) (good : RangeSet → ℕ → A) (bad : ℕ → A) {m : Ranges} (is : m ≡ x) where
+  pub ranges-read : {set : RangeSet} {next : ℕ} → m ≡ ranges.Good set next → a ≡ good set next → a ≡ onRanges x good bad
+  ranges-read e h = rw (sym is ∙ e) h
+
+  pub ranges-fault : {p : ℕ} → m ≡ ranges.Bad p → a ≡ bad p → a ≡ onRanges x good bad
+  ranges-fault e h = rw (sym is ∙ e) h

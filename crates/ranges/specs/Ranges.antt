@@ -1,0 +1,97 @@
+-- Document 01, "The list text": a range set is a count, then that many numbers, all joined by commas. The count is even and at least 2.
+-- Each pair is start, end; the end is not included and is not below the start. An empty range is good. Ranges run in the written order
+-- and may overlap.
+-- Assumes nothing: these are definitions.
+use Prim.Native.Nat.{ℕ, zero, suc, _+_, _-_, _/_, _%_, max}
+use mathlib.Core.Bool.{Bool, false}
+use mathlib.Core.List.{List, [], _∷_, _++_}
+use lib.Dec.{leb, eqb}
+use Rattle.text.specs.Choice.{pick}
+use Rattle.text.specs.Expected.{comma, stands}
+use Rattle.text.specs.Number.{numberAt, onNumber}
+use Rattle.text.specs.declared.number.Number.{Number}
+use Rattle.text.specs.declared.number.Number.the-variants as number
+use Rattle.ranges.specs.declared.Pair.{Pair}
+use Rattle.ranges.specs.declared.Pair.the-variants as pair
+use Rattle.ranges.specs.declared.RangeSet.{RangeSet}
+use Rattle.ranges.specs.declared.Ranges.{Ranges}
+use Rattle.ranges.specs.declared.Ranges.the-variants as ranges
+
+-- a range: the blocks from `start` up to, not including, `end`
+pub record Range : Type 0 where
+  pub start : ℕ
+  pub end : ℕ
+
+-- a comma and a number
+unfoldable pub itemAt : List ℕ → ℕ → Number
+itemAt s at = pick (stands s at comma) (numberAt s (at + 1)) (number.Bad at)
+
+-- the end is not below the start; an empty range is good
+abbrev pub isRange : ℕ → ℕ → Bool
+isRange start end = leb start end
+
+-- a pair: start and end, each after a comma
+unfoldable pub pairAt : List ℕ → ℕ → Pair
+pairAt s at =
+    onNumber (itemAt s at)
+    (λ start i. onNumber (itemAt s i) (λ end next. pick (isRange start end) (pair.Good start end next) (pair.Bad i)) pair.Bad)
+    pair.Bad
+
+abbrev pub onPair : {A : Type 0} → Pair → (ℕ → ℕ → ℕ → A) → (ℕ → A) → A
+onPair (pair.Good start end next) good bad = good start end next
+onPair (pair.Bad p) good bad = bad p
+
+-- ranges and the position past them, or the position of a fault
+pub data Parsed : Type 0 where
+  ok : List Range → ℕ → Parsed
+  fault : ℕ → Parsed
+
+abbrev pub follow : Range → Parsed → Parsed
+follow r (ok rs next) = ok (r ∷ rs) next
+follow r (fault p) = fault p
+
+-- that many pairs
+unfoldable pub pairsAt : ℕ → List ℕ → ℕ → Parsed
+pairsAt zero s at = ok [] at
+pairsAt (suc n) s at =
+    onPair (pairAt s at) (λ start end next. follow (record { start = start; end = end }) (pairsAt n s next)) fault
+
+-- the count is even and at least 2
+abbrev pub isCount : ℕ → Bool
+isCount count = pick (eqb (count % 2) 0) (leb 2 count) false
+
+-- the range set at a position
+unfoldable pub setAt : List ℕ → ℕ → Parsed
+setAt s at = onNumber (numberAt s at) (λ count from. pick (isCount count) (pairsAt (count / 2) s from) (fault at)) fault
+
+-- how many blocks the ranges have: a block named twice counts twice
+unfoldable pub sizeOf : List Range → ℕ
+sizeOf [] = 0
+sizeOf (r ∷ rs) = (r .end - r .start) + sizeOf rs
+
+-- the largest end, of an empty range too
+unfoldable pub endOf : List Range → ℕ
+endOf [] = 0
+endOf (r ∷ rs) = max (r .end) (endOf rs)
+
+-- what is kept of a range set: where it stands, its size and its largest end; with the position past it
+unfoldable pub summary : ℕ → Parsed → Ranges
+summary at (ok rs next) = ranges.Good (record { at = at; blocks = sizeOf rs; end = endOf rs }) next
+summary at (fault p) = ranges.Bad p
+
+unfoldable pub rangesAt : List ℕ → ℕ → Ranges
+rangesAt s at = summary at (setAt s at)
+
+abbrev pub onRanges : {A : Type 0} → Ranges → (RangeSet → ℕ → A) → (ℕ → A) → A
+onRanges (ranges.Good set next) good bad = good set next
+onRanges (ranges.Bad p) good bad = bad p
+
+-- n consecutive numbers
+unfoldable pub span : ℕ → ℕ → List ℕ
+span start zero = []
+span start (suc n) = start ∷ span (suc start) n
+
+-- the blocks of the ranges, in the written order
+unfoldable pub blocksOf : List Range → List ℕ
+blocksOf [] = []
+blocksOf (r ∷ rs) = span (r .start) (r .end - r .start) ++ blocksOf rs

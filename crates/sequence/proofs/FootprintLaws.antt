@@ -1,0 +1,228 @@
+-- The lines of a list that was opened change, of the image, only the blocks of their targets, of the work area only the blocks of their
+-- sources, and of the stash area only line 4's blocks: a step without a byte, a byte of new data, and any number of them.
+-- Assumes nothing.
+use mathlib.Core.Path.{_≡_, refl, subst}
+use mathlib.Core.Bool.{true, false}
+use mathlib.Core.List.{List, []}
+use Prim.Native.Nat.{ℕ, _*_, _≤_, _<_}
+use native.Mathlib.Omega.{arith}
+use borrow.Author.Tests.{ltb-true, eqb-true}
+use lib.Dec.{ltb, eqb}
+use lib.ListN.{length, take, set, length-take}
+use Rattle.text.specs.Line.{lineAt}
+use Rattle.text.proofs.ChoiceLaws.{picks, both-true, either-false}
+use Rattle.ranges.specs.Walk.{blocksAt}
+use Rattle.state.specs.Limits.{blockBytes}
+use Rattle.state.specs.Refusals.{none}
+use Rattle.state.specs.Stashes.{Stash, held, findIn, blocksHeld}
+use Rattle.state.specs.declared.Lengths.{Lengths}
+use Rattle.state.specs.declared.State.{State}
+use Rattle.state.specs.declared.stashes.Found.{Found}
+use Rattle.state.specs.declared.stashes.Found.the-variants.{At, Nothing}
+use Rattle.state.proofs.StashLaws.{blocks-held-before}
+use Rattle.command.specs.Commands.{commandOf}
+use Rattle.command.specs.Targets.{newTarget, onNewTarget, targetBlocks}
+use Rattle.command.specs.declared.targets.NewTarget.{NewTarget}
+use Rattle.command.specs.declared.targets.NewTarget.the-variants as new
+use Rattle.command.specs.declared.Command.{Command}
+use Rattle.command.specs.declared.Command.the-variants as command
+use Rattle.rules.specs.Rules.{refusalFor, refusalOf}
+use Rattle.rules.specs.declared.Terms.{Terms}
+use Rattle.rules.proofs.RuleLaws.{stash-fits, move-fits}
+use Rattle.transfer_list.specs.Header.{headerOf}
+use Rattle.transfer_list.specs.Opening.{firstAt, termsOf}
+use Rattle.transfer_list.specs.declared.header.Header.{Header}
+use Rattle.machine.specs.Machine.{feeds}
+use Rattle.machine.proofs.MachineLaws.{Sound, feeds-keeps}
+use Rattle.updater.specs.Areas.{Areas, withImage, withWork}
+use Rattle.updater.specs.Bytes.{addressOf}
+use Rattle.updater.specs.Source.{supplied, together, closedUp, hashesTo}
+use Rattle.updater.specs.Effect.{Effect, verified, zeroEffect, targetWritten, moveEffect, stashWritten, stashEffect, closedFound}
+use Rattle.updater.specs.Effect.{freeEffect, effect}
+use Rattle.updater.specs.Runnable.{Runnable}
+use Rattle.updater.specs.Steps.{Config, passed, refusedWith, furtherInto, stateAfter, after}
+use Rattle.updater.specs.Run.{currentLine, currentCommand, refusalHere, quietStep, newBlocks, newBytes, putByte, isStopped, needsByte}
+use Rattle.updater.specs.Run.{machine}
+use Rattle.updater.proofs.FitLaws.{not-stopped}
+use Rattle.updater.proofs.AtLineLaws.{stepHere, step}
+use Rattle.updater.proofs.RunLaws.{is-new}
+use Rattle.updater.proofs.RunnableLaws.{runnable}
+use Rattle.sequence.specs.Footprint.{SameIn, sourceLength, commandAt, mostBlocks, UpTo, OnlyWritten}
+use Rattle.sequence.proofs.Running.{Running}
+use Rattle.sequence.proofs.RunningLaws.{running-line, running-sound}
+use Rattle.sequence.proofs.SameLaws.{same, same-then, same-fewer, OutOf, Past, over-same, moved-same, zeroed-same, written-same}
+use Rattle.sequence.proofs.SameLaws.{put-same, supplied-same, together-same}
+
+-- ---- a command
+
+-- what a command on the line l may change, where n blocks may be held
+record Writes (l : List ℕ) (c : Command) (n : ℕ) (before after : Areas) : Type 0 where
+  image : SameIn (OutOf (targetBlocks l c)) (before .image) (after .image)
+  work : SameIn (Past (sourceLength c)) (before .work) (after .work)
+  stash : SameIn (Past n) (before .stash) (after .stash)
+
+writes-nothing : (l : List ℕ) (c : Command) (n : ℕ) (a : Areas) → Writes l c n a a
+writes-nothing l c n a = record { image = same (a .image); work = same (a .work); stash = same (a .stash) }
+
+module _ (l : List ℕ) (terms : Terms) (held : List Stash) (hash : List ℕ) (a : Areas)
+    (blocks : blocksHeld held ≤ terms .blocks) (room : blockBytes * terms .blocks ≤ length (a .stash)) where
+  -- where the hash differs, only the work area was filled
+  verified-writes : (c : Command) (n : ℕ) (go : Areas → Areas) (b : Areas) → Writes l c (terms .blocks) a b →
+      Writes l c (terms .blocks) a (go b) → Writes l c (terms .blocks) a (verified n hash go b .areas)
+  verified-writes c n go b e f =
+      picks (λ (x : Effect). Writes l c (terms .blocks) a (x .areas)) (hashesTo (b .work) n hash) _ _ (λ t. f) (λ t. e)
+
+  closed-same : (f : Found) → SameIn (Past (terms .blocks)) (a .stash) (closedFound held (a .stash) f)
+  unfolding closedUp
+  closed-same (At j) =
+      let older = blocks-held-before held j in
+      moved-same (a .stash) _ _ _ (terms .blocks) (omega arith) (omega arith) (omega arith)
+  closed-same Nothing = same (a .stash)
+
+  effect-writes : (c : Command) → refusalFor l terms held hash c ≡ none → Runnable l held a c →
+      Writes l c (terms .blocks) a (effect l held hash c a .areas)
+  unfolding effect zeroEffect moveEffect stashEffect freeEffect Runnable targetBlocks sourceLength
+  effect-writes (command.Zero set) e r =
+      record { image = zeroed-same (blocksAt l (set .at)) (a .image) (r .below); work = same (a .work); stash = same (a .stash) }
+  effect-writes (command.Erase set) e r =
+      record { image = zeroed-same (blocksAt l (set .at)) (a .image) (r .below); work = same (a .work); stash = same (a .stash) }
+  effect-writes (command.New set) e r = writes-nothing l (command.New set) (terms .blocks) a
+  effect-writes (command.Move target n source) e r =
+      let w = together l (a .image) (a .stash) held source (a .work) in
+      let f = move-fits l terms held hash e refl in
+      let work = together-same l (a .stash) held n terms (a .image) source (a .work) (f .from) (r .room) in
+      verified-writes (command.Move target n source) n (targetWritten l target n) (withWork a w)
+      (record { image = same (a .image); work = work; stash = same (a .stash) })
+      (record {
+        image = written-same (blocksAt l (target .at)) (take (blockBytes * n) w) (a .image) (r .goal .below);
+        work = work;
+        stash = same (a .stash);
+      })
+  effect-writes (command.Stash set) e r =
+      let w = supplied l (a .image) (set .at) (set .blocks) (a .work) in
+      let f = stash-fits l terms held hash e refl in
+      let work = supplied-same l (a .stash) held (set .blocks) (a .image) (set .at) (a .work) (r .room) in
+      let most = f .room in
+      let short = length-take (blockBytes * set .blocks) w in
+      verified-writes (command.Stash set) (set .blocks) (stashWritten held (set .blocks)) (withWork a w)
+      (record { image = same (a .image); work = work; stash = same (a .stash) })
+      (record {
+        image = same (a .image);
+        work = work;
+        stash =
+            over-same (a .stash) (blockBytes * blocksHeld held) (take (blockBytes * set .blocks) w) (terms .blocks) (omega arith) (omega arith);
+      })
+  effect-writes command.Free e r = record { image = same (a .image); work = same (a .work); stash = closed-same (findIn held hash) }
+  effect-writes command.Unsupported e r = writes-nothing l command.Unsupported (terms .blocks) a
+  effect-writes (command.Bad p) e r = writes-nothing l (command.Bad p) (terms .blocks) a
+
+-- a byte into a `new`
+byte-writes : (l : List ℕ) (held : List Stash) (a : Areas) (n : ℕ) (c : Command) (k x : ℕ) → Runnable l held a c → k < newBytes c →
+    Writes l c n a (withImage a (set (a .image) (addressOf (newBlocks l c) k) x))
+unfolding newBytes newBlocks targetBlocks Runnable
+byte-writes l held a n c k x r h =
+    record { image = go (newTarget c) refl h; work = same (a .work); stash = same (a .stash) }
+  where
+    go : (t : NewTarget) → newTarget c ≡ t → k < onNewTarget t (λ set. blockBytes * set .blocks) 0 →
+        SameIn (OutOf (targetBlocks l c)) (a .image) (set (a .image) (addressOf (onNewTarget t (λ set. blocksAt l (set .at)) []) k) x)
+    go (new.Set set) e h =
+        let q = is-new c e in
+        let r : Runnable l held a (command.New set) = subst (Runnable l held a) q r in
+        rw q (put-same (blocksAt l (set .at)) k x (a .image) (omega (arith, r .size)))
+    go new.None e h = absurd (omega arith)
+
+-- ---- the lines up to the current one
+
+-- before any line has run nothing has changed
+pub written-none : (s : List ℕ) (last : ℕ) (a : Areas) → OnlyWritten s last a a
+written-none s last a = record { image = same (a .image); work = same (a .work); stash = same (a .stash) }
+
+up-to-later : {s : List ℕ} {last later at : ℕ} → last ≤ later → UpTo s last at → UpTo s later at
+up-to-later h u = record { first = u .first; reached = omega (arith, u .reached); start = u .start }
+
+module _ (s : List ℕ) (a₀ : Areas) where
+  -- the lines up to the one at `last`, and what the command of that line changes
+  written-more : {last later : ℕ} {a b : Areas} → UpTo s last last → last ≤ later → OnlyWritten s last a₀ a →
+      Writes (lineAt s last) (commandAt s last) (mostBlocks (headerOf s)) a b → OnlyWritten s later a₀ b
+  written-more {last} u h w x =
+      record {
+        image =
+            same-then (same-fewer (λ b e at v. e at (up-to-later h v)) (w .image)) (same-fewer (λ b e. e last (up-to-later h u)) (x .image));
+        work =
+            same-then (same-fewer (λ b e at v. e at (up-to-later h v)) (w .work)) (same-fewer (λ b e. e last (up-to-later h u)) (x .work));
+        stash = same-then (w .stash) (x .stash);
+      }
+
+-- a step without a byte does not go back
+after-at : (l hash : List ℕ) (c : Command) (t : State) (number : ℕ) → t .at ≤ stateAfter l hash c t number .at
+unfolding stateAfter passed refusedWith
+after-at l hash c t number = picks (λ (u : State). t .at ≤ u .at) (eqb number none) _ _ (λ e. omega arith) (λ e. omega arith)
+
+module _ (s : List ℕ) (lengths : Lengths) (h : Header) (p : Config) (v : Running s lengths h p) where
+  -- the current line
+  up-to-here : UpTo s (p .state .at) (p .state .at)
+  unfolding firstAt
+  up-to-here = record { first = rw (v .header) (v .at-line .first); reached = omega arith; start = v .at-line .ended }
+
+  line-four : mostBlocks (headerOf s) ≡ h .blocks
+  unfolding mostBlocks
+  line-four = rw (v .header)
+
+  module _ (e : refusalHere s (termsOf lengths h) p ≡ none) where
+    here-writes : Writes (currentLine s p) (currentCommand s p) (mostBlocks (headerOf s)) (p .areas) (stepHere s p .areas)
+    unfolding after refusalOf
+    here-writes =
+        rw line-four
+        (effect-writes (currentLine s p) (termsOf lengths h) (held (p .state)) (commandOf (currentLine s p) .hash) (p .areas)
+        (v .fits .blocks) (v .fits .stash) (currentCommand s p) e
+        (runnable s (termsOf lengths h) p (v .fits) e))
+
+    here-byte : (x : ℕ) → p .state .into < newBytes (currentCommand s p) →
+        Writes (currentLine s p) (currentCommand s p) (mostBlocks (headerOf s)) (p .areas) (putByte s x p .areas)
+    unfolding putByte
+    here-byte x l =
+        byte-writes (currentLine s p) (held (p .state)) (p .areas) (mostBlocks (headerOf s)) (currentCommand s p) (p .state .into) x
+        (runnable s (termsOf lengths h) p (v .fits) e) l
+
+  here-later : p .state .at ≤ stepHere s p .state .at
+  unfolding after
+  here-later = after-at (currentLine s p) (commandOf (currentLine s p) .hash) (currentCommand s p) (p .state) _
+
+-- ---- the machine
+
+module _ (s : List ℕ) (lengths : Lengths) (h : Header) (a₀ : Areas) where
+  abbrev Written : Config → Type 0
+  Written p = OnlyWritten s (p .state .at) a₀ (p .areas)
+
+  quiet-written : (p : Config) → Running s lengths h p → Written p → machine s (termsOf lengths h) .waits p ≡ false →
+      Written (quietStep s (termsOf lengths h) p)
+  quiet-written p v w m =
+      let b = not-stopped s p (either-false (isStopped s p) (needsByte s (termsOf lengths h) p) m .0) in
+      let e = running-line s lengths h p v (b .unrefused) (b .within) in
+      rw (step s (termsOf lengths h) p b e)
+      (written-more s a₀ (up-to-here s lengths h p v) (here-later s lengths h p v) w (here-writes s lengths h p v e))
+
+  put-written : (p : Config) (x : ℕ) → Running s lengths h p → Written p → machine s (termsOf lengths h) .waits p ≡ true →
+      isStopped s p ≡ false → Written (putByte s x p)
+  unfolding needsByte putByte furtherInto
+  put-written p x v w m n =
+      let b = both-true (eqb (refusalHere s (termsOf lengths h) p) none) (ltb (p .state .into) (newBytes (currentCommand s p))) (rw n at m) in
+      let e = eqb-true (refusalHere s (termsOf lengths h) p) none (b .0) in
+      let l = ltb-true (p .state .into) (newBytes (currentCommand s p)) (b .1) in
+      written-more s a₀ (up-to-here s lengths h p v) (omega arith) w (here-byte s lengths h p v e x l)
+
+  pub written-sound : Sound (machine s (termsOf lengths h)) (λ p. Running s lengths h p × OnlyWritten s (p .state .at) a₀ (p .areas))
+  written-sound =
+      let g = running-sound s lengths h in
+      record {
+        falls = λ p v. g .falls p (v .0);
+        rests = λ p v. g .rests p (v .0);
+        quiet-keeps = λ p v m. (g .quiet-keeps p (v .0) m, quiet-written p (v .0) (v .1) m);
+        put-keeps = λ p x v m n. (g .put-keeps p x (v .0) m n, put-written p x (v .0) (v .1) m n);
+      }
+
+  -- any bytes of new data
+  pub feeds-written : (xs : List ℕ) (p : Config) → Running s lengths h p → OnlyWritten s (p .state .at) a₀ (p .areas) →
+      OnlyWritten s (feeds (machine s (termsOf lengths h)) xs p .state .at) a₀ (feeds (machine s (termsOf lengths h)) xs p .areas)
+  feeds-written xs p v w =
+      feeds-keeps (machine s (termsOf lengths h)) (λ p. Running s lengths h p × Written p) written-sound xs p (v, w) .1

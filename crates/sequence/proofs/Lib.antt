@@ -1,0 +1,13 @@
+pub mod Running
+pub mod RunningLaws
+pub mod PossibleLaws
+pub mod OpenedLaws
+pub mod ModelLaws
+pub mod SameLaws
+pub mod FootprintLaws
+pub mod ReadLaws
+pub mod SequenceLaws
+pub mod ClaimLaws
+pub mod CutLaws
+pub mod RowLaws
+pub mod SampleLaws

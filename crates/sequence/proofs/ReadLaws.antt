@@ -1,0 +1,93 @@
+-- Of the image a command reads its source blocks alone: over images that are alike there, the same source is put together, its hash
+-- differs or not alike, and the same is stashed.
+-- Assumes nothing.
+use mathlib.Core.Path.{_≡_, refl, sym, _∙_}
+use mathlib.Core.Bool.{Bool, true, false}
+use mathlib.Core.List.{List, [], _∷_}
+use Prim.Native.Nat.{ℕ, _+_, _*_, _<_}
+use native.Mathlib.Omega.{arith}
+use borrow.Author.Tests.{eq-eqb}
+use lib.Dec.{eqb}
+use lib.ListN.{drop, length-take, length-drop}
+use lib.Seq.{getD-take, getD-drop, ext-getD}
+use Rattle.text.specs.Choice.{pick}
+use Rattle.text.proofs.ChoiceLaws.{either-or-true}
+use Rattle.ranges.specs.Walk.{blocksAt}
+use Rattle.state.specs.Limits.{blockBytes}
+use Rattle.state.specs.Stashes.{Stash}
+use Rattle.command.specs.Targets.{imageBlocksOf, sourceBlocks}
+use Rattle.command.specs.declared.source.Source.{Source}
+use Rattle.command.specs.declared.source.Source.the-variants.{Blocks, Stashes, Both}
+use Rattle.command.specs.declared.Command.the-variants as command
+use Rattle.rules.specs.Move.{isIn}
+use Rattle.updater.specs.Bytes.{blockAt, gathered}
+use Rattle.updater.specs.Source.{supplied, together, hashesTo}
+use Rattle.updater.specs.Effect.{Effect, zeroEffect, moveEffect, stashEffect, freeEffect, effect}
+use Rattle.sequence.specs.Footprint.{SameIn, SameButImage, OnlyRead}
+use Rattle.sequence.proofs.SameLaws.{same-fewer}
+
+-- ---- a source
+
+-- the blocks of bs
+abbrev pub In : List ℕ → ℕ → Type 0
+In bs b = isIn b bs ≡ true
+
+block-reads : {a b : List ℕ} (c : ℕ) → SameIn (λ d. d ≡ c) a b → blockAt b c ≡ blockAt a c
+block-reads {a} {b} c f =
+    let e = f .size in
+    ext-getD 0 (blockAt b c) (blockAt a c)
+    (simp (length-take, length-drop) (omega arith))
+    (λ i h.
+    let m : i < blockBytes = omega (arith, length-take blockBytes (drop (blockBytes * c) b)) in
+    getD-take blockBytes (drop (blockBytes * c) b) i 0 m
+    ∙ getD-drop (blockBytes * c) b i 0
+    ∙ f .bytes (blockBytes * c + i) (omega arith)
+    ∙ sym (getD-take blockBytes (drop (blockBytes * c) a) i 0 m ∙ getD-drop (blockBytes * c) a i 0))
+
+gathered-reads : (bs : List ℕ) {a b : List ℕ} → SameIn (In bs) a b → gathered bs b ≡ gathered bs a
+unfolding gathered isIn
+gathered-reads [] f = refl
+gathered-reads (c ∷ bs) f =
+    rw (
+      block-reads c (same-fewer (λ d e. rw (eq-eqb d c e)) f),
+      gathered-reads bs (same-fewer (λ d e. rw e (sym (either-or-true (eqb d c)))) f),
+    )
+
+module _ (l : List ℕ) {a b : List ℕ} where
+  pub supplied-reads : (at n : ℕ) (work : List ℕ) → SameIn (In (blocksAt l at)) a b → supplied l b at n work ≡ supplied l a at n work
+  unfolding supplied
+  supplied-reads at n work f = rw (gathered-reads (blocksAt l at) f)
+
+  pub together-reads : (stash : List ℕ) (held : List Stash) (source : Source) (work : List ℕ) → SameIn (In (imageBlocksOf l source)) a b →
+      together l b stash held source work ≡ together l a stash held source work
+  unfolding together imageBlocksOf
+  together-reads stash held (Blocks set) work f = supplied-reads (set .at) (set .blocks) work f
+  together-reads stash held (Stashes first) work f = refl
+  together-reads stash held (Both set places first) work f = rw (gathered-reads (blocksAt l (set .at)) f)
+
+-- ---- a command
+
+alike : {x y : Effect} → y .areas .stash ≡ x .areas .stash → y .areas .work ≡ x .areas .work → y .refusal ≡ x .refusal → SameButImage x y
+alike s w r = record { stash = s; work = w; refusal = r }
+
+-- by the same test
+alike-pick : (t : Bool) {x y x' y' : Effect} → SameButImage x x' → SameButImage y y' → SameButImage (pick t x y) (pick t x' y')
+alike-pick true e f = e
+alike-pick false e f = f
+
+pub only-read : OnlyRead
+unfolding effect zeroEffect moveEffect stashEffect freeEffect sourceBlocks
+only-read l held hash (command.Zero set) a image f = alike refl refl refl
+only-read l held hash (command.Erase set) a image f = alike refl refl refl
+only-read l held hash (command.New set) a image f = alike refl refl refl
+only-read l held hash (command.Move target n source) a image f =
+    rw (together-reads l (a .stash) held source (a .work) f)
+    (alike-pick (hashesTo (together l (a .image) (a .stash) held source (a .work)) n hash) (alike refl refl refl) (alike refl refl refl))
+only-read l held hash (command.Stash set) a image f =
+    rw (supplied-reads l (set .at) (set .blocks) (a .work) f)
+    (alike-pick (hashesTo (supplied l (a .image) (set .at) (set .blocks) (a .work)) (set .blocks) hash)
+    (alike refl refl refl)
+    (alike refl refl refl))
+only-read l held hash command.Free a image f = alike refl refl refl
+only-read l held hash command.Unsupported a image f = alike refl refl refl
+only-read l held hash (command.Bad p) a image f = alike refl refl refl

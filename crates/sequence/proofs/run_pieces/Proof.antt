@@ -1,0 +1,175 @@
+-- `sequence::run_pieces` meets its contract: the calls that are left come, with what was taken so far, to what all of them come to.
+-- Assumes nothing.
+use mathlib.Core.Path.{_≡_, refl, _∙_}
+use Prim.Native.Nat.{_-_}
+use native.Mathlib.Omega.{arith}
+use borrow.Author.Needs.{needs}
+use lib.ListN.{length}
+use Rattle.updater.specs.Areas.{areasOf}
+use Rattle.updater.specs.Steps.{configOf}
+use Rattle.sequence.proofs.CutLaws.{Cutting, cutting-start, cutting-more, cutting-ends, total-within, run-refused, run-accepted, with-claim}
+use Rattle.sequence.proofs.run_pieces.Statement.{statement}
+use Rattle.sequence.proofs.run_pieces.Tie as tie
+
+-- The areas keep their lengths, and the calls that are left come to what all of them come to.
+abbrev Inv-loop : tie.InvT-loop
+Inv-loop list image₀ stash₀ work₀ bytes cuts s₀ total₀ from₀ k₀ image stash work s total from k =
+    (length image ≡ length image₀)
+    × (length stash ≡ length stash₀)
+    × (length work ≡ length work₀)
+    × Cutting list bytes cuts (configOf (areasOf image₀ stash₀ work₀) s₀) (configOf (areasOf image stash work) s) from k total
+
+abbrev μ-loop : tie.MeasureT-loop
+μ-loop list image₀ stash₀ work₀ bytes cuts s₀ total₀ from₀ k₀ image stash work s total from k = length cuts - k
+
+-- ---- places of the code
+
+abbrev start : tie.Else1 Inv-loop μ-loop → tie.Start Inv-loop μ-loop
+start c = c .before .before .before .before .before .before .before .before .before .before
+
+abbrev cut : tie.After-call Inv-loop μ-loop → tie.After-piece-end Inv-loop μ-loop
+cut c = c .before .before .before .before .before
+
+abbrev turn : tie.After-piece-end Inv-loop μ-loop → tie.In-loop Inv-loop μ-loop
+turn c = c .before .before
+
+abbrev called : tie.After-struct-known2 Inv-loop μ-loop → tie.After-call Inv-loop μ-loop
+called c = c .before .before .before .before .before .before .before .before
+
+abbrev left : tie.After-call2 Inv-loop μ-loop → tie.After-loop Inv-loop μ-loop
+left c = c .before .before .before .before .before
+
+abbrev last : tie.After-struct-known3 Inv-loop μ-loop → tie.After-call2 Inv-loop μ-loop
+last c = c .before .before .before .before .before .before .before .before
+
+-- ---- the opening
+
+open-requires : tie.Need-open-requires Inv-loop μ-loop
+open-requires c κs = tt
+
+returns : tie.Need-returns Inv-loop μ-loop
+returns c = with-claim _ _ _ _ (run-refused _ _ _ _ (c .before .before .before .«open» .ensures) (c .if1 .taken))
+
+-- ---- a turn
+
+loop-holds : tie.Need-loop-holds Inv-loop μ-loop
+loop-holds c = (refl, refl, refl, cutting-start _ _ _ _)
+
+mul-piece-end : tie.Need-mul-piece-end Inv-loop μ-loop
+mul-piece-end c = omega arith
+
+shared-slice-read-piece-end : tie.Need-shared-slice-read-piece-end Inv-loop μ-loop
+shared-slice-read-piece-end c = omega arith
+
+piece-end-requires : tie.Need-piece-end-requires Inv-loop μ-loop
+piece-end-requires c κs = omega arith
+
+sub-call : tie.Need-sub-call Inv-loop μ-loop
+sub-call c = omega arith
+
+part-call-start : tie.Need-part-call-start Inv-loop μ-loop
+part-call-start c = search needs
+
+part-call-end : tie.Need-part-call-end Inv-loop μ-loop
+part-call-end c = search needs
+
+call-requires : tie.Need-call-requires Inv-loop μ-loop
+call-requires c κs = tt
+
+add-total : tie.Need-add-total Inv-loop μ-loop
+add-total c =
+    let d = called c in
+    let e = cut d in
+    let l = turn e .before in
+    omega
+    (arith, total-within _ _ _ (l .loop .inv .3) (e .piece-end .result - l .loop .from) (d .call .ensures), start (l .before) .good .1 .1 .1 .1 .0 .0)
+
+add-k : tie.Need-add-k Inv-loop μ-loop
+add-k c = omega (arith, start (turn (cut (called c)) .before .before) .good .1 .1 .1 .1 .1 .0 .0)
+
+loop-less : tie.Need-loop-less Inv-loop μ-loop
+loop-less c = omega arith
+
+loop-again : tie.Need-loop-again Inv-loop μ-loop
+loop-again c =
+    let d = called c in
+    let e = cut d in
+    let t = turn e in
+    let i = t .before .loop .inv in
+    let r = d .call .ensures in (
+      d .call .kept .1 .0 ∙ i .0,
+      d .call .kept .1 .1 .0 ∙ i .1,
+      d .call .kept .1 .1 .1 .0 ∙ i .2,
+      cutting-more _ _ _ (i .3) (t .loop-test .taken) (e .piece-end .ensures) r,
+    )
+
+-- ---- the last call
+
+sub-call-2 : tie.Need-sub-call-2 Inv-loop μ-loop
+sub-call-2 c = omega arith
+
+part-call-start-2 : tie.Need-part-call-start-2 Inv-loop μ-loop
+part-call-start-2 c = search needs
+
+part-call-end-2 : tie.Need-part-call-end-2 Inv-loop μ-loop
+part-call-end-2 c = search needs
+
+call-requires-2 : tie.Need-call-requires-2 Inv-loop μ-loop
+call-requires-2 c κs = tt
+
+add-t19 : tie.Need-add-t19 Inv-loop μ-loop
+add-t19 c =
+    let d = last c in
+    let l = left d .before in
+    let s = start (l .before) in
+    omega
+    (arith, total-within _ _ _ (l .loop .inv .3) (length (s .args .bytes .now) - l .loop .from) (d .call2 .ensures), s .good .1 .1 .1 .1 .0 .0)
+
+same-length : tie.Need-same-length Inv-loop μ-loop
+same-length c = search needs
+
+same-length-2 : tie.Need-same-length-2 Inv-loop μ-loop
+same-length-2 c = search needs
+
+same-length-3 : tie.Need-same-length-3 Inv-loop μ-loop
+same-length-3 c = search needs
+
+returns-2 : tie.Need-returns-2 Inv-loop μ-loop
+returns-2 c =
+    let d = last c in
+    let t = left d in
+    let u = t .before .before in
+    let r = d .call2 .ensures in
+    with-claim _ _ _ _
+    (run-accepted _ _ _ _ (u .before .before .before .«open» .ensures) (u .if1 .left)
+    (cutting-ends _ _ _ (t .before .loop .inv .3) (t .loop-test .left) r))
+
+pub run-pieces-spec : {M : Type 1} → statement M
+run-pieces-spec =
+    tie.close
+    (tie.spec
+    Inv-loop
+    μ-loop
+    open-requires
+    returns
+    loop-holds
+    mul-piece-end
+    shared-slice-read-piece-end
+    piece-end-requires
+    sub-call
+    part-call-start
+    part-call-end
+    call-requires
+    add-total
+    add-k
+    loop-less
+    loop-again
+    sub-call-2
+    part-call-start-2
+    part-call-end-2
+    call-requires-2
+    add-t19
+    same-length
+    same-length-2
+    same-length-3
+    returns-2)

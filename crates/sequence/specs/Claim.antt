@@ -1,0 +1,79 @@
+-- The claim over every sequence of calls: however the new data is cut into pieces, one to a call, empty ones and calls after the end or
+-- after a refusal included, what stands after the last call is what the model gives for the pieces joined.
+-- Assumes nothing: these are definitions.
+use mathlib.Core.Path.{_≡_}
+use mathlib.Core.List.{List, _∷_}
+use Prim.Native.Nat.{ℕ}
+use lib.ListN.{length}
+use Rattle.state.specs.Refusals.{none, hashDiffers}
+use Rattle.state.specs.States.{noRefusal}
+use Rattle.state.specs.Stashes.{held}
+use Rattle.state.specs.declared.Lengths.{Lengths}
+use Rattle.state.specs.declared.Refusal.{Refusal}
+use Rattle.state.specs.declared.State.{State}
+use Rattle.transfer_list.specs.Opening.{openRefusal, openState}
+use Rattle.machine.specs.Pieces.{joined}
+use Rattle.updater.specs.Areas.{Areas}
+use Rattle.updater.specs.Steps.{Config, configOf}
+use Rattle.updater.specs.Calls.{lengthsAt}
+use Rattle.updater.specs.declared.Outcome.the-variants as outcome
+use Rattle.sequence.specs.Model.{Model, model, modelOutcome}
+use Rattle.sequence.specs.Sequence.{leavesAll, takesAll, lastSays, lastTakes, lastPiece}
+use Rattle.sequence.specs.Footprint.{OnlyWritten, OnlyRead}
+
+-- the areas as they stood at opening, with the state that it gave
+abbrev pub openedConfig : List ℕ → Areas → Config
+openedConfig s a = configOf a (openState s (lengthsAt s a))
+
+-- an opening is accepted when none of 1 to 15 applies
+abbrev pub Accepted : List ℕ → Areas → Type 0
+Accepted s a = openRefusal s (lengthsAt s a) ≡ noRefusal
+
+-- a state equals what the model gives: the model's stashes, current line, bytes into a `new` and refusal, and the lengths at opening
+pub record Holds (opened : Lengths) (state : State) (m : Model) : Type 0 where
+  pub count : state .count ≡ length (m .stashes)
+  pub stashes : held state ≡ m .stashes
+  pub line : state .line ≡ m .line
+  pub at : state .at ≡ m .at
+  pub into : state .into ≡ m .into
+  pub refusal : state .refusal ≡ m .refusal
+  pub lengths : state .lengths ≡ opened
+
+-- the calls over one piece or more, q first, end as the model does
+pub record Agrees (s : List ℕ) (a : Areas) (q : List ℕ) (qs : List (List ℕ)) (m : Model) : Type 0 where
+  pub areas : leavesAll s (q ∷ qs) (openedConfig s a) .areas ≡ m .areas
+  pub state : Holds (lengthsAt s a) (leavesAll s (q ∷ qs) (openedConfig s a) .state) m
+  pub outcome : lastSays s q qs (openedConfig s a) ≡ modelOutcome s m
+  pub taken : takesAll s (q ∷ qs) (openedConfig s a) ≡ m .taken
+
+-- two sequences of calls end alike: in the areas and all that the state holds, in the last outcome and in the sum of bytes taken
+pub record Alike (s : List ℕ) (a : Areas) (q r : List ℕ) (qs rs : List (List ℕ)) : Type 0 where
+  pub config : leavesAll s (q ∷ qs) (openedConfig s a) ≡ leavesAll s (r ∷ rs) (openedConfig s a)
+  pub outcome : lastSays s q qs (openedConfig s a) ≡ lastSays s r rs (openedConfig s a)
+  pub taken : takesAll s (q ∷ qs) (openedConfig s a) ≡ takesAll s (r ∷ rs) (openedConfig s a)
+
+-- THE CLAIM
+pub record Claim : Type 0 where
+  -- an opening whose state holds no number is accepted: there is nothing between
+  pub decided : (s : List ℕ) (a : Areas) → openState s (lengthsAt s a) .refusal .number ≡ none → Accepted s a
+  -- the calls end as the model does for the pieces joined
+  pub agrees : (s : List ℕ) (a : Areas) → Accepted s a →
+      (q : List ℕ) (qs : List (List ℕ)) → Agrees s a q qs (model s a (joined (q ∷ qs)))
+  -- sequences that join alike end alike
+  pub alike : (s : List ℕ) (a : Areas) → Accepted s a →
+      (q r : List ℕ) (qs rs : List (List ℕ)) → joined (q ∷ qs) ≡ joined (r ∷ rs) → Alike s a q r qs rs
+  -- of the image only the targets of the lines up to the current one change, of the work area only the largest source, of the stash area
+  -- only what line 4 allows
+  pub only-written : (s : List ℕ) (a : Areas) → Accepted s a →
+      (q : List ℕ) (qs : List (List ℕ)) →
+      OnlyWritten s (leavesAll s (q ∷ qs) (openedConfig s a) .state .at) a (leavesAll s (q ∷ qs) (openedConfig s a) .areas)
+  -- what a command puts together and stashes depends on its source blocks of the image alone
+  pub only-read : OnlyRead
+  -- a call whose outcome is more took its whole piece
+  pub whole : (s : List ℕ) (a : Areas) → Accepted s a →
+      (q : List ℕ) (qs : List (List ℕ)) → lastSays s q qs (openedConfig s a) ≡ outcome.More →
+      lastTakes s q qs (openedConfig s a) ≡ length (lastPiece q qs)
+  -- a run can only give 16
+  pub only-hash : (s : List ℕ) (a : Areas) → Accepted s a →
+      (q : List ℕ) (qs : List (List ℕ)) {refused : Refusal} →
+      lastSays s q qs (openedConfig s a) ≡ outcome.Refused refused → refused .number ≡ hashDiffers

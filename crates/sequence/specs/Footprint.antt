@@ -1,0 +1,78 @@
+-- Document 01, "The list text", "Putting a source together" and "The stash area": which blocks of the lent areas the lines of a text may
+-- change, and which blocks of the image a command reads. Demand: of the image only a command's target blocks change.
+-- Assumes nothing: these are definitions.
+use mathlib.Core.Path.{_≡_}
+use mathlib.Core.Bool.{true, false}
+use mathlib.Core.List.{List}
+use Prim.Native.Nat.{ℕ, _-_, _/_, _≤_}
+use lib.ListN.{length, getD}
+use Rattle.text.specs.Line.{lineAt}
+use Rattle.text.specs.Expected.{lf}
+use Rattle.state.specs.Limits.{blockBytes}
+use Rattle.state.specs.Stashes.{Stash}
+use Rattle.command.specs.Commands.{commandOf}
+use Rattle.command.specs.Targets.{targetBlocks, sourceBlocks}
+use Rattle.command.specs.declared.Command.{Command}
+use Rattle.command.specs.declared.Command.the-variants as command
+use Rattle.rules.specs.Move.{isIn}
+use Rattle.transfer_list.specs.Header.{headerOf}
+use Rattle.transfer_list.specs.Opening.{firstAt}
+use Rattle.transfer_list.specs.declared.header.HeaderRead.{HeaderRead}
+use Rattle.transfer_list.specs.declared.header.HeaderRead.the-variants.{Good, Bad}
+use Rattle.updater.specs.Areas.{Areas, withImage}
+use Rattle.updater.specs.Effect.{Effect, effect}
+
+-- an area is as long as before, and its bytes in those blocks are as before
+pub record SameIn (blocks : ℕ → Type 0) (before after : List ℕ) : Type 0 where
+  pub size : length after ≡ length before
+  pub bytes : (k : ℕ) → blocks (k / blockBytes) → getD after k 0 ≡ getD before k 0
+
+-- ---- what lines write
+
+-- the blocks of the work area that a command fills: N of a `move`, as many as S has of a `stash`
+unfoldable pub sourceLength : Command → ℕ
+sourceLength (command.Zero set) = 0
+sourceLength (command.Erase set) = 0
+sourceLength (command.New set) = 0
+sourceLength (command.Move target n source) = n
+sourceLength (command.Stash set) = set .blocks
+sourceLength command.Free = 0
+sourceLength command.Unsupported = 0
+sourceLength (command.Bad p) = 0
+
+abbrev pub commandAt : List ℕ → ℕ → Command
+commandAt s at = commandOf (lineAt s at) .command
+
+-- line 4
+unfoldable pub mostBlocks : HeaderRead → ℕ
+mostBlocks (Good h) = h .blocks
+mostBlocks (Bad line) = 0
+
+-- a command line starts at a position of the text, and it is the one at `last` or an earlier one
+pub record UpTo (s : List ℕ) (last at : ℕ) : Type 0 where
+  pub first : firstAt (headerOf s) ≤ at
+  pub reached : at ≤ last
+  pub start : getD s (at - 1) 0 ≡ lf
+
+-- once the lines up to the one at `last` were reached, these blocks are as before: of the image those in no target of theirs, of the work
+-- area those past every source of theirs, of the stash area those past line 4's
+pub record OnlyWritten (s : List ℕ) (last : ℕ) (before after : Areas) : Type 0 where
+  pub image : SameIn (λ b. (at : ℕ) → UpTo s last at → isIn b (targetBlocks (lineAt s at) (commandAt s at)) ≡ false)
+      (before .image) (after .image)
+  pub work : SameIn (λ b. (at : ℕ) → UpTo s last at → sourceLength (commandAt s at) ≤ b) (before .work) (after .work)
+  pub stash : SameIn (λ b. mostBlocks (headerOf s) ≤ b) (before .stash) (after .stash)
+
+-- ---- what a command reads
+
+-- two effects leave the same stash and work area, and stop with the same number
+pub record SameButImage (x y : Effect) : Type 0 where
+  pub stash : y .areas .stash ≡ x .areas .stash
+  pub work : y .areas .work ≡ x .areas .work
+  pub refusal : y .refusal ≡ x .refusal
+
+-- of the image a command reads its source blocks alone: what it puts together and stashes is the same over an image that is alike there
+abbrev pub OnlyRead : Type 0
+OnlyRead =
+    (l : List ℕ) (held : List Stash) (hash : List ℕ) (c : Command) (a : Areas) (image : List ℕ) →
+    SameIn (λ b. isIn b (sourceBlocks l c) ≡ true) (a .image) image →
+    SameButImage (effect l held hash c a) (effect l held hash c (withImage a image))

@@ -1,0 +1,149 @@
+-- Document 01, "Sample lists": cases 1 to 13, in one table. They are about the rules themselves: how range sets and lines are read, what a
+-- line is refused for, and what the model does with it. In 7 and 8 the hash is taken to match, whatever it is.
+-- Assumes nothing: these are definitions.
+use mathlib.Core.Path.{_≡_}
+use mathlib.Core.List.{List, [], _∷_, _++_}
+use Prim.Native.Nat.{ℕ}
+use Prim.Native.Char.{code}
+use Prim.Native.String.{String, [] as []ˢ, _∷_ as _∷ˢ_}
+use lib.ListN.{length, take, drop, replicate, length-replicate}
+use lib.Dec.{eqb}
+use Rattle.sha1.specs.Sha1.{sha1}
+use Rattle.text.specs.Choice.{pick}
+use Rattle.text.specs.Hash.{hashBytes}
+use Rattle.text.specs.Hex.{hexOf}
+use Rattle.ranges.specs.Ranges.{rangesAt}
+use Rattle.ranges.specs.Walk.{blocksAt, AllBelow}
+use Rattle.ranges.specs.declared.Ranges.the-variants as ranges
+use Rattle.state.specs.Limits.{blockBytes}
+use Rattle.state.specs.Refusals.{none}
+use Rattle.state.specs.Stashes.{Stash, blocksHeld}
+use Rattle.command.specs.Commands.{commandOf}
+use Rattle.rules.specs.Rules.{refusalOf}
+use Rattle.rules.specs.declared.Terms.{Terms}
+use Rattle.state.specs.States.{noRefusal}
+use Rattle.transfer_list.specs.Header.{firstLine}
+use Rattle.updater.specs.Areas.{areasOf}
+use Rattle.sequence.specs.Model.{Model, lineEnds, doLine}
+
+-- the bytes of a text of plain characters
+abbrev pub text : String → List ℕ
+text []ˢ = []
+text (c ∷ˢ s) = code c ∷ text s
+
+-- a block: 4,096 bytes
+pub record Block : Type 0 where
+  pub bytes : List ℕ
+  pub whole : length bytes ≡ blockBytes
+
+-- a block of zeros
+abbrev pub zeros : Block
+zeros = record { bytes = replicate blockBytes 0; whole = length-replicate {A = ℕ} blockBytes 0 }
+
+-- the bytes of blocks, one after the other
+unfoldable pub bytesOf : List Block → List ℕ
+bytesOf [] = []
+bytesOf (b ∷ bs) = b .bytes ++ bytesOf bs
+
+-- a hash: 20 bytes
+pub record Digest : Type 0 where
+  pub bytes : List ℕ
+  pub whole : length bytes ≡ hashBytes
+  pub each : AllBelow 256 bytes
+
+-- a hash as a line has it: 40 characters
+abbrev pub hex : Digest → List ℕ
+hex h = hexOf hashBytes (h .bytes)
+
+-- the whole text is a range set of n blocks
+pub record Sized (t : List ℕ) (n : ℕ) : Type 0 where
+  pub end : ℕ
+  pub read : rangesAt t 0 ≡ ranges.Good (record { at = 0; blocks = n; end = end }) (length t)
+
+-- the whole text is a range set of these blocks
+pub record Names (t blocks : List ℕ) : Type 0 where
+  pub sized : Sized t (length blocks)
+  pub order : blocksAt t 0 ≡ blocks
+
+-- no range set stands at the text's start
+pub record IllFormed (t : List ℕ) : Type 0 where
+  pub fault : ℕ
+  pub read : rangesAt t 0 ≡ ranges.Bad fault
+
+-- what lines are checked against: an image of 8 blocks, a stash area and a work area of 3
+abbrev pub terms : Terms
+terms = record { image = 8; work = 3; stashes = 3; blocks = 3 }
+
+-- what a line leaves, with those bytes of new data not yet taken: it is checked, then the model does it; a refused one changes nothing
+abbrev pub done : List ℕ → Model → List ℕ → Model
+done l m new =
+    pick (eqb (refusalOf l terms (m .stashes)) none) (doLine (λ left rest. left) l (commandOf l) m new) m
+
+-- a stash of n blocks, held under a hash
+abbrev pub stashOf : Digest → ℕ → Stash
+stashOf h n = record { hash = h .bytes; blocks = n }
+
+-- an image of 8 blocks A to H; the stash area's blocks are T1 T2 T3, the work area's W1 W2 W3. Each may hold any bytes, its letter or others.
+module _ (A B C D E F G H T1 T2 T3 W1 W2 W3 : Block) where
+  -- before a line, with that stash area and those stashes
+  abbrev pub holding : List Block → List Stash → Model
+  holding area stashes =
+      record {
+        areas = areasOf (bytesOf (A ∷ B ∷ C ∷ D ∷ E ∷ F ∷ G ∷ H ∷ [])) (bytesOf area) (bytesOf (W1 ∷ W2 ∷ W3 ∷ []));
+        stashes = stashes;
+        line = firstLine;
+        at = 0;
+        into = 0;
+        taken = 0;
+        refusal = noRefusal;
+      }
+
+  -- .. with no stash
+  abbrev pub start : Model
+  start = holding (T1 ∷ T2 ∷ T3 ∷ []) []
+
+  pub record Table : Type 0 where
+    -- 1. `2,3,5` is 3, 4.
+    pub case-1 : Names (text "2,3,5") (3 ∷ 4 ∷ [])
+    -- 2. `4,6,7,1,3` is 6, 1, 2.
+    pub case-2 : Names (text "4,6,7,1,3") (6 ∷ 1 ∷ 2 ∷ [])
+    -- 3. `6,247114,247116,247150,247155,247156,247156` has 7 blocks (000).
+    pub case-3 : Sized (text "6,247114,247116,247150,247155,247156,247156") 7
+    -- 4. `2,5,3`, `3,1,2,3`, `0`, `4,1,2`, `2,01,2`: ill formed.
+    pub case-4 :
+        IllFormed (text "2,5,3") × IllFormed (text "3,1,2,3") × IllFormed (text "0") × IllFormed (text "4,1,2") × IllFormed (text "2,01,2")
+    -- 5. `zero 2,7,8` good; `2,7,9` gives 8.
+    pub case-5 : (refusalOf (text "zero 2,7,8\n") terms [] ≡ none) × (refusalOf (text "zero 2,7,9\n") terms [] ≡ 8)
+    -- 6. `zero 2,8,8` good, changes nothing; `2,9,9` gives 8.
+    pub case-6 :
+        (refusalOf (text "zero 2,8,8\n") terms [] ≡ none)
+        × (done (text "zero 2,8,8\n") start [] ≡ lineEnds (text "zero 2,8,8\n") start)
+        × (refusalOf (text "zero 2,9,9\n") terms [] ≡ 8)
+    -- 7. `move` to `2,1,4` of `3 2,0,3`: A A B C E F G H.
+    pub case-7 : (h : Digest) → sha1 (bytesOf (A ∷ B ∷ C ∷ [])) ≡ h .bytes →
+        done (text "move " ++ hex h ++ text " 2,1,4 3 2,0,3\n") start [] .areas .image ≡ bytesOf (A ∷ A ∷ B ∷ C ∷ E ∷ F ∷ G ∷ H ∷ [])
+    -- 8. Stash X is one block S. `move` to `2,5,8`, `3 2,0,2 4,0,1,2,3 X:2,1,2`: A B C D E A S B.
+    pub case-8 : (h x : Digest) (S : Block) → sha1 (bytesOf (A ∷ S ∷ B ∷ [])) ≡ h .bytes →
+        done (text "move " ++ hex h ++ text " 2,5,8 3 2,0,2 4,0,1,2,3 " ++ hex x ++ text ":2,1,2\n")
+        (holding (S ∷ T2 ∷ T3 ∷ []) (stashOf x 1 ∷ [])) [] .areas .image
+        ≡ bytesOf (A ∷ B ∷ C ∷ D ∷ E ∷ A ∷ S ∷ B ∷ [])
+    -- 9. As 8 with `X:2,0,1`: 12.
+    pub case-9 : (h x : Digest) →
+        refusalOf (text "move " ++ hex h ++ text " 2,5,8 3 2,0,2 4,0,1,2,3 " ++ hex x ++ text ":2,0,1\n") terms (stashOf x 1 ∷ []) ≡ 12
+    -- 10. `zero 4,0,1,7,8`: 0 B C D E F G 0.
+    pub case-10 : done (text "zero 4,0,1,7,8\n") start [] .areas .image ≡ bytesOf (zeros ∷ B ∷ C ∷ D ∷ E ∷ F ∷ G ∷ zeros ∷ [])
+    -- 11. `new 4,2,3,6,7` after 5,000 bytes: block 2 full, 904 bytes of block 6 new, the rest still G.
+    pub case-11 : (new : List ℕ) → length new ≡ 5000 →
+        done (text "new 4,2,3,6,7\n") start new .areas .image
+        ≡ bytesOf (A ∷ B ∷ []) ++ take blockBytes new ++ bytesOf (D ∷ E ∷ F ∷ []) ++ drop blockBytes new ++ drop 904 (G .bytes) ++ H .bytes
+    -- 12. `new 4,2,4,3,5` with p q r s: blocks 2, 3, 4 are p, r, s.
+    pub case-12 : (p q r s : Block) →
+        done (text "new 4,2,4,3,5\n") start (bytesOf (p ∷ q ∷ r ∷ s ∷ [])) .areas .image ≡ bytesOf (A ∷ B ∷ p ∷ r ∷ s ∷ F ∷ G ∷ H ∷ [])
+    -- 13. Stash area X Y1 Y2, then `free X`: Y1 Y2 Y2, two blocks held.
+    pub case-13 : (x y : Digest) (X Y1 Y2 : Block) →
+        let left = done (text "free " ++ hex x ++ text "\n") (holding (X ∷ Y1 ∷ Y2 ∷ []) (stashOf x 1 ∷ stashOf y 2 ∷ [])) [] in
+        (left .areas .stash ≡ bytesOf (Y1 ∷ Y2 ∷ Y2 ∷ [])) × (blocksHeld (left .stashes) ≡ 2)
+
+-- THE TABLE, whatever the blocks hold
+abbrev pub Samples : Type 0
+Samples = (A B C D E F G H T1 T2 T3 W1 W2 W3 : Block) → Table A B C D E F G H T1 T2 T3 W1 W2 W3

@@ -1,0 +1,64 @@
+// An opening and the calls over new data that is cut into pieces.
+ghost use mathlib.Core.Path.{_≡_};
+ghost use Prim.Native.Nat.{_+_, _-_, _≤_, min};
+ghost use Rattle.updater.specs.Areas.{areasOf};
+ghost use Rattle.updater.specs.Calls.{resultOf};
+ghost use Rattle.sequence.specs.Cuts.{runCuts, RunMeets};
+use transfer_list::open;
+use updater::Called;
+use updater::Outcome;
+use updater::call;
+
+// Where a piece of n bytes ends that starts at `from`, in data of `len` bytes.
+fn piece_end(from: usize, n: usize, len: usize) -> usize
+    requires { ⌜ from ≤ len ⌝ }
+    ensures { λ r. ⌜ r ≡ from + min n (len - from) ⌝ }
+{
+    if len - from <= n {
+        return len;
+    }
+    from + n
+}
+
+// Opens the list and makes the calls: a piece of each given length, cut short where the data ends, and then one with what is left.
+pub fn run_pieces(
+    list: &[u8],
+    image: &mut [u8],
+    stash: &mut [u8],
+    work: &mut [u8],
+    bytes: &[u8],
+    cuts: &[usize],
+) -> Called
+    ensures { λ r. ⌜ resultOf (areasOf (now (image .exit)) (now (stash .exit)) (now (work .exit))) r ≡ runCuts (now (list .entry)) (areasOf (now (image .entry)) (now (stash .entry)) (now (work .entry))) (now (bytes .entry)) (now (cuts .entry)) ⌝ }
+    ensures { λ r. ⌜ RunMeets (now (list .entry)) (areasOf (now (image .entry)) (now (stash .entry)) (now (work .entry))) (now (bytes .entry)) (resultOf (areasOf (now (image .exit)) (now (stash .exit)) (now (work .exit))) r) ⌝ }
+{
+    let opened = open(list, image.len(), stash.len(), work.len());
+    let refusal = opened.refusal;
+    if refusal.number != 0 {
+        return Called {
+            state: opened,
+            outcome: Outcome::Refused(refusal),
+            taken: 0,
+        };
+    }
+    let mut s = opened;
+    let mut total: usize = 0;
+    let mut from = 0;
+    let mut k = 0;
+    while k < cuts.len() {
+        let end = piece_end(from, cuts[k], bytes.len());
+        let called = call(list, image, stash, work, &bytes[from..end], s);
+        s = called.state;
+        total = total + called.taken;
+        from = end;
+        k += 1;
+    }
+    let last = call(list, image, stash, work, &bytes[from..], s);
+    let state = last.state;
+    let outcome = last.outcome;
+    Called {
+        state,
+        outcome,
+        taken: total + last.taken,
+    }
+}

@@ -1,0 +1,45 @@
+-- Document 01, "Calls" and "Refusal numbers": the state that is kept between calls, and what of it a step sets.
+-- Assumes nothing: these are definitions.
+use Prim.Native.Nat.{ℕ}
+use Rattle.state.specs.Refusals.{none}
+use Rattle.state.specs.Stashes.{Table, tableOf, emptyTable}
+use Rattle.state.specs.declared.Lengths.{Lengths}
+use Rattle.state.specs.declared.Refusal.{Refusal}
+use Rattle.state.specs.declared.State.{State}
+
+-- a number and the line that is refused
+abbrev pub refusing : ℕ → ℕ → Refusal
+refusing number line = record { number = number; line = line }
+
+abbrev pub noRefusal : Refusal
+noRefusal = refusing none 0
+
+-- a table, a line's number, where it starts, the bytes into a `new`, a refusal and the lengths
+abbrev pub stateOf : Table → ℕ → ℕ → ℕ → Refusal → Lengths → State
+stateOf t line at into refused lengths =
+    record {
+      hashes = t .hashes;
+      sizes = t .sizes;
+      count = t .count;
+      line = line;
+      at = at;
+      into = into;
+      refusal = refused;
+      lengths = lengths;
+    }
+
+-- at the start of a line, with no stash
+abbrev pub stateAt : ℕ → ℕ → Refusal → Lengths → State
+stateAt line at refused lengths = stateOf emptyTable line at 0 refused lengths
+
+-- with another table of stashes
+abbrev pub withTable : State → Table → State
+withTable s t = stateOf t (s .line) (s .at) (s .into) (s .refusal) (s .lengths)
+
+-- at another line, or other bytes into a `new`
+abbrev pub withCursor : State → ℕ → ℕ → ℕ → State
+withCursor s line at into = stateOf (tableOf s) line at into (s .refusal) (s .lengths)
+
+-- with another refusal
+abbrev pub withRefusal : State → Refusal → State
+withRefusal s refused = stateOf (tableOf s) (s .line) (s .at) (s .into) refused (s .lengths)

@@ -1,0 +1,89 @@
+-- The machine at a line that is not refused: whether it waits, what its step without a byte is, and bytes of new data in one go.
+-- Assumes nothing.
+use mathlib.Core.Path.{_≡_, refl, _∙_}
+use mathlib.Core.Bool.{true, false}
+use mathlib.Core.List.{List, [], _∷_}
+use Prim.Native.Nat.{ℕ, suc, _+_, _-_, _≤_, _<_}
+use native.Mathlib.Nat.{add-zero}
+use native.Mathlib.Omega.{arith}
+use borrow.Author.Tests.{lt-ltb, le-ltb, lt-leb, eq-eqb, ne-eqb}
+use lib.ListN.{length}
+use Rattle.state.specs.Refusals.{none}
+use Rattle.command.specs.Commands.{commandOf}
+use Rattle.rules.specs.declared.Terms.{Terms}
+use Rattle.machine.proofs.LoopLaws.{puts, Eats}
+use Rattle.updater.specs.Areas.{withImage}
+use Rattle.updater.specs.Bytes.{putBytes}
+use Rattle.updater.specs.Steps.{Config, configOf, furtherInto, after}
+use Rattle.updater.specs.Run.{currentLine, currentCommand, refusalHere, refusedAt, quietStep, newBlocks, newBytes, putByte}
+use Rattle.updater.specs.Run.{isStopped, needsByte, machine}
+use Rattle.updater.proofs.FitLaws.{NotStopped}
+
+-- what the current line does
+abbrev pub stepHere : List ℕ → Config → Config
+stepHere s p = after (currentLine s p) (commandOf (currentLine s p) .hash) (currentCommand s p) p
+
+module _ (s : List ℕ) (terms : Terms) (p : Config) (g : NotStopped s p) where
+  pub goes-on : isStopped s p ≡ false
+  unfolding isStopped
+  goes-on = rw (eq-eqb (p .state .refusal .number) none (g .unrefused), lt-leb (length s) (p .state .at) (g .within))
+
+  -- a line that is refused
+  module _ (n : refusalHere s terms p ≡ none → ⊥) where
+    pub refused-moves : machine s terms .waits p ≡ false
+    unfolding needsByte
+    refused-moves = rw (goes-on, ne-eqb (refusalHere s terms p) none n)
+
+    pub refused-step : quietStep s terms p ≡ refusedAt (refusalHere s terms p) p
+    unfolding quietStep
+    refused-step = rw (ne-eqb (refusalHere s terms p) none n)
+
+  -- .. and one that is not
+  module _ (e : refusalHere s terms p ≡ none) where
+    pub moves : newBytes (currentCommand s p) ≤ p .state .into → machine s terms .waits p ≡ false
+    unfolding needsByte
+    moves h = rw (goes-on, eq-eqb (refusalHere s terms p) none e, le-ltb (p .state .into) (newBytes (currentCommand s p)) h)
+
+    pub waits : p .state .into < newBytes (currentCommand s p) → machine s terms .waits p ≡ true
+    unfolding needsByte
+    waits h = rw (goes-on, eq-eqb (refusalHere s terms p) none e, lt-ltb (p .state .into) (newBytes (currentCommand s p)) h)
+
+    pub step : quietStep s terms p ≡ stepHere s p
+    unfolding quietStep
+    step = rw (eq-eqb (refusalHere s terms p) none e)
+
+-- ---- bytes of a `new`
+
+-- the bytes xs go to the blocks' bytes, from the byte that is next
+unfoldable pub fed : List ℕ → List ℕ → Config → Config
+fed blocks xs p =
+    configOf (withImage (p .areas) (putBytes blocks (p .state .into) xs (p .areas .image))) (furtherInto (p .state) (length xs))
+
+module _ (s : List ℕ) (terms : Terms) where
+  pub fed-goes : (blocks xs : List ℕ) (p : Config) → NotStopped s p → NotStopped s (fed blocks xs p)
+  unfolding fed furtherInto
+  fed-goes blocks xs p g = record { unrefused = g .unrefused; within = g .within }
+
+  -- .. at the same line
+  pub fed-refusal : (blocks xs : List ℕ) (p : Config) → refusalHere s terms (fed blocks xs p) ≡ refusalHere s terms p
+  unfolding fed furtherInto
+  fed-refusal blocks xs p = refl
+
+  -- the machine takes as many bytes as the `new` still wants
+  pub eats-new : (xs : List ℕ) (p : Config) → NotStopped s p → refusalHere s terms p ≡ none →
+      length xs ≤ newBytes (currentCommand s p) - p .state .into → Eats (machine s terms) xs p
+  unfolding Eats putByte furtherInto
+  eats-new [] p g e h = tt
+  eats-new (x ∷ xs) p g e h = (
+    waits s terms p g e (omega arith),
+    goes-on s terms p g,
+    eats-new xs (putByte s x p) (record { unrefused = g .unrefused; within = g .within }) e (omega arith),
+  )
+
+  pub puts-new : (blocks xs : List ℕ) (p : Config) → newBlocks (currentLine s p) (currentCommand s p) ≡ blocks →
+      puts (machine s terms) xs p ≡ fed blocks xs p
+  unfolding puts fed putBytes putByte furtherInto
+  puts-new blocks [] p e = rw add-zero
+  puts-new blocks (x ∷ xs) p e =
+      let n : p .state .into + 1 + length xs ≡ p .state .into + suc (length xs) = omega arith in
+      puts-new blocks xs (putByte s x p) e ∙ rw (e, n)

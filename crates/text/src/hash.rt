@@ -6,6 +6,9 @@ use crate::expected::Expected;
 // How many bytes a hash has.
 pub const HASH_BYTES: usize = 20;
 
+// What a letter is counted from: `a` is 10.
+const BEFORE_A: u8 = b'a' - 10;
+
 enum Digit {
     Value(u8),
     Other,
@@ -27,8 +30,11 @@ fn hex_digit(b: u8) -> Digit
     ensures { λ r. ⌜ r ≡ digitOf b ⌝ }
 {
     match b {
-        b'0'..=b'9' => Digit::Value(b - b'0'),
-        b'a'..=b'f' => Digit::Value(b - b'a' + 10),
+        b'0'..=b'9' | b'a'..=b'f' => {
+            // One arm for both: which of the two a character is cannot be foreseen, and a jump would be guessed wrong half the time.
+            let zero = if b < b'a' { b'0' } else { BEFORE_A };
+            Digit::Value(b - zero)
+        }
         _ => Digit::Other,
     }
 }

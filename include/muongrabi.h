@@ -1,8 +1,10 @@
 /*
  * muongrabi: runs an Android transfer list of version 3 over a lent image while new data arrives in pieces.
  *
- * Link with target/staticlib/libmuongrabi.a (x86-64). Nothing is allocated, no file is opened and no state is kept inside:
- * everything a function works on is lent by the caller, and what must be remembered between calls is the state it gives back.
+ * Link with libmuongrabi.a: `pkg-config --cflags --libs muongrabi` after `./install PREFIX`, or target/staticlib/libmuongrabi.a as it is
+ * built. The archive is for x86-64 Linux; it wants memcpy, memmove and memset of the C library and nothing else. Nothing is
+ * allocated, no file is opened and no state is kept inside: everything a function works on is lent by the caller, and what must be
+ * remembered between calls is the state it gives back.
  *
  *     muongrabi_state state = muongrabi_open(list, list_length, image_length, stash_length, work_length);
  *     while (there is new data, or once with none) {
@@ -13,11 +15,16 @@
  *     }
  *
  * For all functions: a pointer with length n names n readable bytes, writable ones for image, stash and work; cuts names n readable
- * numbers; out names 20 writable bytes. Where n is 0 the pointer must still not be null. What is written (image, stash, work, out)
- * overlaps nothing else that the same call is lent. Every value of every byte, number and state field is allowed and gets an answer.
+ * numbers; out names 20 writable bytes. A null pointer names no bytes and no numbers, whatever n is given with it. What is written (image,
+ * stash, work, out) overlaps nothing else that the same call is lent. Every value of every byte, number and state field is allowed and
+ * gets an answer.
  */
 #ifndef MUONGRABI_H
 #define MUONGRABI_H
+
+#if !defined(__x86_64__) || !defined(__linux__)
+#error "muongrabi: the archive is for x86-64 Linux, and structs cross to it as they do there"
+#endif
 
 #include <stddef.h>
 #include <stdint.h>
@@ -26,7 +33,10 @@
 extern "C" {
 #endif
 
-/* Limits. An area that is not whole blocks, or passes its limit, is refused with 1; a longer list with 2. */
+#define MUONGRABI_VERSION "0.1.0"
+#define MUONGRABI_ABI 1   /* another number whenever the layout of a struct or the parameters of a function below change */
+
+/* Limits. */
 #define MUONGRABI_BLOCK 4096u           /* bytes of a block */
 #define MUONGRABI_MOST_IMAGE 1048576u   /* blocks of the image */
 #define MUONGRABI_MOST_AREA 4096u       /* blocks of the stash area, and of the work area */
@@ -39,34 +49,63 @@ extern "C" {
 #define MUONGRABI_REFUSED 2u   /* see the answer's number and line */
 
 /*
- * Refusal numbers, and the line each is given with (lines of the list count from 1).
- *
- *  1  image, stash or work area not whole blocks, or over its limit             0
- *  2  list too long                                                             0
- *  3  header line absent, ill formed or without LF                              that line
- *  4  version not 3                                                             1
- *  5  line 3 over 64; else line 4 over the stash area                           3; 4
- *  6  command line ill formed, or its word unknown                              that line
- *  7  first word bsdiff or imgdiff, whatever follows                            that line
- *  8  a range of target or image source ends past the image                     that line
- *  9  N, or an image source, larger than the work area                          that line
- * 10  a stash named in move or free is not held                                 that line
- * 11  sizes of target, source and places do not agree                           that line
- * 12  a place at N or above, or taken twice                                     that line
- * 13  the hash to be stashed is held already                                    that line
- * 14  holding it would pass line 3 or line 4                                    that line
- * 15  all new targets together differ from line 2                               2
- * 16  in a run: a source's SHA-1 is not the one in the list                     that line
- * 17  in a call: state impossible, or the length of list, image or area changed 0
+ * Refusal numbers. The line given with one is that line of the list, counted from 1, where nothing else is said.
  *
  * An opening gives 1 to 15 and looks at no block. A call gives 6 to 14, 16 and 17, and repeats the refusal that its state holds. On
  * the list that was opened, with the states given back and areas of the same lengths, it gives 16 only.
- *
+ */
+enum muongrabi_refusal_number {
+    MUONGRABI_REFUSAL_AREA_SIZE = 1,         /* image, stash or work area not whole blocks, or over its limit; line 0 */
+    MUONGRABI_REFUSAL_LIST_LENGTH = 2,       /* list too long; line 0 */
+    MUONGRABI_REFUSAL_HEADER_FORM = 3,       /* header line absent, ill formed or without LF */
+    MUONGRABI_REFUSAL_OTHER_VERSION = 4,     /* version not 3; line 1 */
+    MUONGRABI_REFUSAL_HEADER_LIMIT = 5,      /* line 3 over 64; else line 4 over the stash area */
+    MUONGRABI_REFUSAL_LINE_FORM = 6,         /* command line ill formed, or its word unknown */
+    MUONGRABI_REFUSAL_UNSUPPORTED = 7,       /* first word bsdiff or imgdiff, whatever follows */
+    MUONGRABI_REFUSAL_PAST_IMAGE = 8,        /* a range of target or image source ends past the image */
+    MUONGRABI_REFUSAL_PAST_WORK = 9,         /* N, or an image source, larger than the work area */
+    MUONGRABI_REFUSAL_NOT_HELD = 10,         /* a stash named in move or free is not held */
+    MUONGRABI_REFUSAL_SIZES_DIFFER = 11,     /* sizes of target, source and places do not agree */
+    MUONGRABI_REFUSAL_MISPLACED = 12,        /* a place at N or above, or taken twice */
+    MUONGRABI_REFUSAL_HELD_ALREADY = 13,     /* the hash to be stashed is held already */
+    MUONGRABI_REFUSAL_NO_ROOM = 14,          /* holding it would pass line 3 or line 4 */
+    MUONGRABI_REFUSAL_TOTAL_DIFFERS = 15,    /* all new targets together differ from line 2; line 2 */
+    MUONGRABI_REFUSAL_HASH_DIFFERS = 16,     /* in a run: a source's SHA-1 is not the one in the list */
+    MUONGRABI_REFUSAL_STATE_IMPOSSIBLE = 17  /* in a call: state impossible, or the length of list, image or area changed; line 0 */
+};
+
+/*
  * A state is impossible when the areas and the list's header would now give 1 to 5; when `at` is past the list's end, before the first
  * command line or not at a line's start (the end after an LF is one), or `line` is not that line's number; when it holds over 64
  * stashes, one hash twice, or more blocks than line 4 or the stash area; or when `into` is not 0 and the line is no good `new` (6, 8)
  * or has no more bytes than that.
  */
+
+/* What a refusal's number means, in words for people. */
+static inline const char *muongrabi_refusal_text(size_t number)
+{
+    static const char *const texts[] = {
+        "nothing is refused",
+        "the image, stash or work area is not whole blocks of 4096 bytes, or is over its limit",
+        "the list is longer than 4194304 bytes",
+        "a header line is missing, is not a plain number or does not end in a line feed",
+        "the list's version is not 3",
+        "the list asks for more than 64 stashes, or for more blocks than the stash area has",
+        "the line is not a command: its word is unknown, or its form is wrong",
+        "the commands bsdiff and imgdiff are not supported",
+        "a range of the target or source ends past the image",
+        "the source is larger than the work area",
+        "the line names a stash that is not held",
+        "the sizes of target, source and places do not agree",
+        "a place lies past the end of the source, or is taken twice",
+        "a stash of this hash is held already",
+        "the stash would pass the number of stashes (line 3) or of blocks (line 4)",
+        "the blocks that all lines of new data write are not as many as line 2 says",
+        "the source does not have the hash that the list gives",
+        "the state does not fit the list and the areas of this call",
+    };
+    return number < sizeof texts / sizeof *texts ? texts[number] : "a number that no rule gives";
+}
 
 /* A refusal; number 0 is none. */
 typedef struct muongrabi_refusal {
@@ -106,6 +145,35 @@ typedef struct muongrabi_answer {
     size_t taken;            /* bytes of the piece that were used */
 } muongrabi_answer;
 
+/* The layout that the archive was compiled with. It changes together with MUONGRABI_ABI. */
+#if defined(__cplusplus) && __cplusplus >= 201103L
+#define MUONGRABI_LAYOUT(name, holds) static_assert(holds, #name)
+#elif !defined(__cplusplus) && __STDC_VERSION__ >= 201112L
+#define MUONGRABI_LAYOUT(name, holds) _Static_assert(holds, #name)
+#else
+#define MUONGRABI_LAYOUT(name, holds) typedef char muongrabi_layout_of_##name[(holds) ? 1 : -1]
+#endif
+MUONGRABI_LAYOUT(number, sizeof(size_t) == 8);
+MUONGRABI_LAYOUT(refusal, sizeof(muongrabi_refusal) == 16);
+MUONGRABI_LAYOUT(lengths, sizeof(muongrabi_lengths) == 32);
+MUONGRABI_LAYOUT(state_sizes, offsetof(muongrabi_state, sizes) == 1280);
+MUONGRABI_LAYOUT(state_count, offsetof(muongrabi_state, count) == 1792);
+MUONGRABI_LAYOUT(state_line, offsetof(muongrabi_state, line) == 1800);
+MUONGRABI_LAYOUT(state_at, offsetof(muongrabi_state, at) == 1808);
+MUONGRABI_LAYOUT(state_into, offsetof(muongrabi_state, into) == 1816);
+MUONGRABI_LAYOUT(state_refusal, offsetof(muongrabi_state, refusal) == 1824);
+MUONGRABI_LAYOUT(state_lengths, offsetof(muongrabi_state, lengths) == 1840);
+MUONGRABI_LAYOUT(state, sizeof(muongrabi_state) == 1872);
+MUONGRABI_LAYOUT(answer_outcome, offsetof(muongrabi_answer, outcome) == 1872);
+MUONGRABI_LAYOUT(answer_number, offsetof(muongrabi_answer, number) == 1880);
+MUONGRABI_LAYOUT(answer_line, offsetof(muongrabi_answer, line) == 1888);
+MUONGRABI_LAYOUT(answer_taken, offsetof(muongrabi_answer, taken) == 1896);
+MUONGRABI_LAYOUT(answer, sizeof(muongrabi_answer) == 1904);
+#undef MUONGRABI_LAYOUT
+
+/* MUONGRABI_ABI as the archive has it. The name has the number too, so that what was compiled with another header does not link. */
+size_t muongrabi_abi_1(void);
+
 /* Writes the SHA-1 digest of length bytes to out. */
 void muongrabi_digest(const uint8_t *bytes, size_t length, uint8_t out[20]);
 
@@ -140,6 +208,83 @@ muongrabi_answer muongrabi_run(const uint8_t *list, size_t list_length,
                                uint8_t *work, size_t work_length,
                                const uint8_t *data, size_t data_length,
                                const size_t *cuts, size_t cuts_length);
+
+/*
+ * Null pointers. The exports want a pointer that is not null even where they read nothing through it. So each name above stands, from here
+ * on, for an inline function that lends no bytes where it is given null. Those over structs name muongrabi_abi_1 too. Who calls the exports
+ * from another language passes pointers that are not null.
+ */
+static inline const uint8_t *muongrabi_lent_bytes(const uint8_t *bytes)
+{
+    static const uint8_t none = 0;
+    return bytes ? bytes : &none;
+}
+
+static inline uint8_t *muongrabi_lent_area(uint8_t *area)
+{
+    static uint8_t none;
+    return area ? area : &none;
+}
+
+static inline const size_t *muongrabi_lent_numbers(const size_t *numbers)
+{
+    static const size_t none = 0;
+    return numbers ? numbers : &none;
+}
+
+static inline size_t muongrabi_lent_length(const void *lent, size_t length)
+{
+    return lent ? length : 0;
+}
+
+static inline void muongrabi_digest_lent(const uint8_t *bytes, size_t length, uint8_t out[20])
+{
+    muongrabi_digest(muongrabi_lent_bytes(bytes), muongrabi_lent_length(bytes, length), out);
+}
+
+static inline muongrabi_state muongrabi_open_lent(const uint8_t *list, size_t list_length,
+                                                  size_t image_length, size_t stash_length, size_t work_length)
+{
+    (void)muongrabi_abi_1();
+    return muongrabi_open(muongrabi_lent_bytes(list), muongrabi_lent_length(list, list_length),
+                          image_length, stash_length, work_length);
+}
+
+static inline muongrabi_answer muongrabi_call_lent(const uint8_t *list, size_t list_length,
+                                                   uint8_t *image, size_t image_length,
+                                                   uint8_t *stash, size_t stash_length,
+                                                   uint8_t *work, size_t work_length,
+                                                   const uint8_t *piece, size_t piece_length,
+                                                   muongrabi_state state)
+{
+    (void)muongrabi_abi_1();
+    return muongrabi_call(muongrabi_lent_bytes(list), muongrabi_lent_length(list, list_length),
+                          muongrabi_lent_area(image), muongrabi_lent_length(image, image_length),
+                          muongrabi_lent_area(stash), muongrabi_lent_length(stash, stash_length),
+                          muongrabi_lent_area(work), muongrabi_lent_length(work, work_length),
+                          muongrabi_lent_bytes(piece), muongrabi_lent_length(piece, piece_length), state);
+}
+
+static inline muongrabi_answer muongrabi_run_lent(const uint8_t *list, size_t list_length,
+                                                  uint8_t *image, size_t image_length,
+                                                  uint8_t *stash, size_t stash_length,
+                                                  uint8_t *work, size_t work_length,
+                                                  const uint8_t *data, size_t data_length,
+                                                  const size_t *cuts, size_t cuts_length)
+{
+    (void)muongrabi_abi_1();
+    return muongrabi_run(muongrabi_lent_bytes(list), muongrabi_lent_length(list, list_length),
+                         muongrabi_lent_area(image), muongrabi_lent_length(image, image_length),
+                         muongrabi_lent_area(stash), muongrabi_lent_length(stash, stash_length),
+                         muongrabi_lent_area(work), muongrabi_lent_length(work, work_length),
+                         muongrabi_lent_bytes(data), muongrabi_lent_length(data, data_length),
+                         muongrabi_lent_numbers(cuts), muongrabi_lent_length(cuts, cuts_length));
+}
+
+#define muongrabi_digest muongrabi_digest_lent
+#define muongrabi_open muongrabi_open_lent
+#define muongrabi_call muongrabi_call_lent
+#define muongrabi_run muongrabi_run_lent
 
 #ifdef __cplusplus
 }

@@ -2,8 +2,8 @@
  * Applies an update: apply LIST IMAGE NEW
  *
  * LIST is the transfer list, IMAGE the image that is updated in its place, NEW the new data. New data is read in pieces, so NEW may be
- * larger than memory. The image is written back after a run, refused or not. Prints `done T`, `more T` or `refused K L` (T: bytes of
- * new data taken; K: number, L: line). Exit status: 0 done, 1 more or refused, 2 for a file that cannot be read or written.
+ * larger than memory. The image is written back after a run, refused or not; a refused opening leaves it alone. Prints `done T`, `more T`
+ * (T: bytes of new data taken) or `refused: ` and why. Exit status: 0 done, 1 more or refused, 2 for a file that cannot be read or written.
  */
 #include <stdio.h>
 #include <stdlib.h>
@@ -16,7 +16,7 @@ static void fail(const char *name)
     exit(2);
 }
 
-/* The whole file; one byte more is allocated, so that an empty file has a pointer too. */
+/* The whole file. */
 static uint8_t *read_file(const char *name, size_t *length)
 {
     FILE *file = fopen(name, "rb");
@@ -46,6 +46,13 @@ static void write_file(const char *name, const uint8_t *bytes, size_t length)
     if (fclose(file) != 0) fail(name);
 }
 
+static void print_refusal(size_t number, size_t line)
+{
+    printf("refused: ");
+    if (line != 0) printf("line %zu: ", line);
+    printf("%s (refusal %zu)\n", muongrabi_refusal_text(number), number);
+}
+
 int main(int argc, char **argv)
 {
     if (argc != 4) {
@@ -66,7 +73,7 @@ int main(int argc, char **argv)
 
     muongrabi_state state = muongrabi_open(list, list_length, image_length, area_length, area_length);
     if (state.refusal.number != 0) {
-        printf("refused %zu %zu\n", state.refusal.number, state.refusal.line);
+        print_refusal(state.refusal.number, state.refusal.line);
         return 1;
     }
 
@@ -91,7 +98,7 @@ int main(int argc, char **argv)
         printf("more %zu\n", taken);
         break;
     default:
-        printf("refused %zu %zu\n", answer.number, answer.line);
+        print_refusal(answer.number, answer.line);
     }
     free(list);
     free(image);

@@ -12,21 +12,6 @@
 
 #define BLOCK MUONGRABI_BLOCK
 
-/* The layout that the library was compiled with. */
-_Static_assert(sizeof(size_t) == 8, "64 bits");
-_Static_assert(sizeof(muongrabi_refusal) == 16, "refusal");
-_Static_assert(sizeof(muongrabi_lengths) == 32, "lengths");
-_Static_assert(offsetof(muongrabi_state, sizes) == 1280, "sizes");
-_Static_assert(offsetof(muongrabi_state, count) == 1792, "count");
-_Static_assert(offsetof(muongrabi_state, line) == 1800, "line");
-_Static_assert(offsetof(muongrabi_state, at) == 1808, "at");
-_Static_assert(offsetof(muongrabi_state, into) == 1816, "into");
-_Static_assert(offsetof(muongrabi_state, refusal) == 1824, "refusal");
-_Static_assert(offsetof(muongrabi_state, lengths) == 1840, "lengths");
-_Static_assert(sizeof(muongrabi_state) == 1872, "state");
-_Static_assert(offsetof(muongrabi_answer, outcome) == 1872, "outcome");
-_Static_assert(sizeof(muongrabi_answer) == 1904, "answer");
-
 static int passed, failed;
 
 static void check(int good, const char *what)
@@ -78,6 +63,22 @@ static int holds(const uint8_t *bytes, const char *letters)
         for (size_t j = 0; j < BLOCK; j++)
             if (bytes[k * BLOCK + j] != (letters[k] == '0' ? 0 : letters[k])) return 0;
     return 1;
+}
+
+/* An outcome that there is; a number and a line only where it is a refusal. */
+static int sound(const muongrabi_answer *answer)
+{
+    int refused = answer->outcome == MUONGRABI_REFUSED;
+    return answer->outcome <= MUONGRABI_REFUSED && (refused ? answer->number != 0 : answer->number == 0 && answer->line == 0);
+}
+
+/* Nothing but its refusal. */
+static int only_refused(const muongrabi_state *state)
+{
+    muongrabi_state refused;
+    memset(&refused, 0, sizeof refused);
+    refused.refusal = state->refusal;
+    return state->refusal.number != 0 && memcmp(state, &refused, sizeof refused) == 0;
 }
 
 static void name_of(const char *letters, char out[41])
@@ -149,14 +150,16 @@ static void whole_runs(size_t length)
             muongrabi_state state = muongrabi_open(l, length, sizeof image, sizeof area, sizeof area);
             muongrabi_answer answer = {.outcome = MUONGRABI_MORE};
             size_t taken = 0;
+            int good = 1;
             for (size_t at = 0; at < sizeof data && answer.outcome == MUONGRABI_MORE; at += pieces[p]) {
                 size_t n = sizeof data - at < pieces[p] ? sizeof data - at : pieces[p];
                 const uint8_t *piece = lay(&piece_lot, data + at, n, behind, 1);
                 answer = muongrabi_call(l, length, i, sizeof image, s, sizeof area, w, sizeof area, piece, n, state);
                 state = answer.state;
                 taken += answer.taken;
+                good &= sound(&answer);
             }
-            check(answer.outcome == MUONGRABI_DONE && taken == sizeof data, "a run's end");
+            check(good && answer.outcome == MUONGRABI_DONE && taken == sizeof data, "a run's end");
             check(holds(i, "p0HqBr0p") && holds(s, "HBH") && holds(w, "pHq"), "what a run leaves");
             check(state.count == 1 && state.sizes[0] == 1 && state.at == length && state.line == 15, "the state at the end");
         }
@@ -183,7 +186,7 @@ static void beginnings(size_t length)
         const uint8_t *l = lay(&list_lot, list, n, 1, 1);
         muongrabi_state state = muongrabi_open(l, n, sizeof image, sizeof area, sizeof area);
         size_t number = state.refusal.number;
-        good &= n == length ? number == 0 : number == 3 || number == 6 || number == 15;
+        good &= n == length ? number == 0 : only_refused(&state) && (number == 3 || number == 6 || number == 15);
         for (size_t at = 0, line = 1; at <= n; at++) {
             if (at > 0 && list[at - 1] == '\n') line++;
             if (at > 0 && at < n && list[at - 1] != '\n') continue;
@@ -198,7 +201,7 @@ static void beginnings(size_t length)
             uint8_t *w = lay(&work_lot, area, sizeof area, 1, 0);
             const uint8_t *d = lay(&piece_lot, data, sizeof data, 1, 1);
             muongrabi_answer answer = muongrabi_call(l, n, i, sizeof image, s, sizeof area, w, sizeof area, d, sizeof data, from);
-            good &= answer.outcome <= MUONGRABI_REFUSED;
+            good &= sound(&answer);
         }
     }
     check(good, "every beginning of the list");
@@ -219,6 +222,7 @@ static void nothing_lent(void)
         check(state.refusal.number == 3 && state.refusal.line == 1, "no list");
         answer = muongrabi_run(none.first, 0, none.first, 0, none.first, 0, none.first, 0, none.first, 0, (const size_t *)(const void *)none.first, 0);
         check(answer.outcome == MUONGRABI_REFUSED && answer.number == 3 && answer.line == 1 && answer.taken == 0, "a run over no list");
+        check(only_refused(&answer.state), "the state of a run over no list");
     }
 
     static uint8_t image[BLOCK];
@@ -238,12 +242,66 @@ static void nothing_lent(void)
                 *fields[c] = borders[a];
                 *fields[(c + 1 + a % 5) % 6] = borders[b];
                 muongrabi_answer answer = muongrabi_call(l, strlen(some), i, BLOCK, none.first, 0, none.first, 0, d, 10, state);
-                good &= answer.outcome <= MUONGRABI_REFUSED;
+                good &= sound(&answer);
                 if (answer.number == 17) good &= answer.taken == 0 && memcmp(&answer.state, &state, sizeof state) == 0;
             }
         }
     }
     check(good, "states of border values");
+}
+
+/* Null names no bytes, whatever length is given with it. */
+static void null_pointers(void)
+{
+    static const char *empty = "3\n0\n0\n0\n";
+    static const char *one = "3\n1\n0\n0\nnew 2,0,1\n";
+    static uint8_t image[BLOCK], data[BLOCK];
+    uint8_t nothing[20], hash[20];
+    check(muongrabi_abi_1() == MUONGRABI_ABI, "the archive is of this header");
+    muongrabi_digest((const uint8_t *)"", 0, nothing);
+    muongrabi_digest(NULL, 0, hash);
+    check(memcmp(hash, nothing, 20) == 0, "digest of null");
+    muongrabi_digest(NULL, 99, hash);
+    check(memcmp(hash, nothing, 20) == 0, "digest of null with a length");
+
+    muongrabi_state state = muongrabi_open(NULL, 0, 0, 0, 0);
+    check(state.refusal.number == MUONGRABI_REFUSAL_HEADER_FORM && state.refusal.line == 1, "a null list");
+    state = muongrabi_open(NULL, 8, 0, 0, 0);
+    check(state.refusal.number == MUONGRABI_REFUSAL_HEADER_FORM && state.refusal.line == 1, "a null list with a length");
+
+    const uint8_t *list = (const uint8_t *)empty;
+    state = muongrabi_open(list, strlen(empty), 0, 0, 0);
+    muongrabi_answer answer = muongrabi_call(list, strlen(empty), NULL, 0, NULL, 0, NULL, 0, NULL, 0, state);
+    check(answer.outcome == MUONGRABI_DONE && answer.taken == 0, "null areas");
+    answer = muongrabi_call(NULL, strlen(empty), NULL, 0, NULL, 0, NULL, 0, NULL, 0, state);
+    check(answer.number == MUONGRABI_REFUSAL_STATE_IMPOSSIBLE, "a null list in a call");
+    answer = muongrabi_run(list, strlen(empty), NULL, 0, NULL, 0, NULL, 0, NULL, 0, NULL, 0);
+    check(answer.outcome == MUONGRABI_DONE && answer.taken == 0, "a run over null areas");
+    answer = muongrabi_run(list, strlen(empty), NULL, BLOCK, NULL, 1, NULL, 2, NULL, 3, NULL, 4);
+    check(answer.outcome == MUONGRABI_DONE && answer.taken == 0, "a run over null areas with lengths");
+
+    list = (const uint8_t *)one;
+    state = muongrabi_open(list, strlen(one), BLOCK, 0, 0);
+    answer = muongrabi_call(list, strlen(one), NULL, BLOCK, NULL, 0, NULL, 0, data, BLOCK, state);
+    check(answer.number == MUONGRABI_REFUSAL_STATE_IMPOSSIBLE && answer.taken == 0, "a null image with a length");
+    answer = muongrabi_call(list, strlen(one), image, BLOCK, NULL, 0, NULL, 0, NULL, BLOCK, state);
+    check(answer.outcome == MUONGRABI_MORE && answer.taken == 0, "a null piece with a length");
+    muongrabi_answer (*called)(const uint8_t *, size_t, uint8_t *, size_t, uint8_t *, size_t, uint8_t *, size_t, const uint8_t *, size_t,
+                               muongrabi_state) = muongrabi_call;
+    answer = called(list, strlen(one), image, BLOCK, NULL, 0, NULL, 0, data, BLOCK, answer.state);
+    check(answer.outcome == MUONGRABI_DONE && answer.taken == BLOCK, "null through a function pointer");
+}
+
+static void refusal_texts(void)
+{
+    int good = 1;
+    for (size_t k = 0; k <= MUONGRABI_REFUSAL_STATE_IMPOSSIBLE; k++)
+        for (size_t j = 0; j < k; j++) good &= strcmp(muongrabi_refusal_text(k), muongrabi_refusal_text(j)) != 0;
+    check(good, "each refusal has a text of its own");
+    const char *other = muongrabi_refusal_text(MUONGRABI_REFUSAL_STATE_IMPOSSIBLE + 1);
+    check(strcmp(other, muongrabi_refusal_text(SIZE_MAX)) == 0, "a text for every other number");
+    check(strstr(muongrabi_refusal_text(MUONGRABI_REFUSAL_UNSUPPORTED), "bsdiff") != NULL, "texts stand at their numbers");
+    check(strstr(muongrabi_refusal_text(MUONGRABI_REFUSAL_HASH_DIFFERS), "hash") != NULL, "texts stand at their numbers");
 }
 
 int main(void)
@@ -260,6 +318,8 @@ int main(void)
     whole_runs(length);
     beginnings(length);
     nothing_lent();
+    null_pointers();
+    refusal_texts();
     printf("%d passed, %d failed\n", passed, failed);
     return failed != 0;
 }

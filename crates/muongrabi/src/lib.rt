@@ -7,9 +7,12 @@ ghost use Rattle.updater.specs.Calls.{callOf};
 ghost use Rattle.updater.specs.Steps.{configOf};
 ghost use Rattle.sequence.specs.Cuts.{runCuts};
 ghost use Rattle.muongrabi.specs.Answers.{answerOf, answeredOf, answered};
+ghost use Rattle.muongrabi.specs.Abi.{abi};
 use state::State;
 use updater::Called;
 use updater::Outcome;
+
+const ABI: usize = 1;
 
 // An outcome as numbers: 0 done, 1 more, 2 refused with a number and a line.
 #[repr(C)]
@@ -49,6 +52,14 @@ fn to_answer(called: Called) -> Answer
             taken: called.taken,
         },
     }
+}
+
+// The ABI's number. The name has it too, so that what was built for another one does not link.
+#[no_mangle]
+pub extern "C" fn muongrabi_abi_1() -> usize
+    ensures { λ r. ⌜ r ≡ abi ⌝ }
+{
+    ABI
 }
 
 // The SHA-1 digest of the bytes.

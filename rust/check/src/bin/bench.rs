@@ -1,0 +1,341 @@
+//! Times of the library beside the same work in plain Rust. The two sides take turns, and which is first changes from run to run, so
+//! that a slow phase of the machine meets both. Times are processor time, medians of nine runs; the ratio is the median of the nine runs'
+//! ratios, with the least and the greatest beside it.
+//! usage: bench [--self] [digest] [moves] [open] [new]   (--self times plain Rust in the library's place; no words: all)
+
+use check::generate::Rng;
+use check::library::outcome_of;
+use check::{hex, Implementation, Library, Plain};
+use muongrabi::{Areas, Lengths};
+use reference::{digest, plain, Hash, Outcome, BLOCK, MOST_LIST};
+use std::hint::black_box;
+use std::time::Duration;
+
+const RUNS: usize = 9;
+
+fn main() {
+    let words: Vec<String> = std::env::args().skip(1).collect();
+    let itself = words.iter().any(|word| word == "--self");
+    let chosen: Vec<&str> = words.iter().map(|word| word.as_str()).filter(|word| *word != "--self").collect();
+    println!("{:<48} {:>12} {:>12} {:>7}", "medians of nine runs", "library", "plain Rust", "ratio");
+    let wanted = |name: &str| chosen.is_empty() || chosen.contains(&name);
+    if itself {
+        measure::<Plain>(wanted);
+    } else {
+        measure::<Library>(wanted);
+    }
+}
+
+fn measure<S: Side>(wanted: impl Fn(&str) -> bool) {
+    if wanted("digest") {
+        digests::<S>();
+    }
+    if wanted("moves") {
+        moves::<S>();
+    }
+    if wanted("open") {
+        openings::<S>();
+    }
+    if wanted("new") {
+        new_data::<S>();
+    }
+}
+
+/// One side of the times. Its state stays in its own form from call to call: `Implementation` would convert it, and that costs.
+trait Side {
+    type State;
+    fn digest(bytes: &[u8]) -> Hash;
+    /// The first state, or the refusal's number.
+    fn open(list: &[u8], lengths: Lengths) -> Result<Self::State, usize>;
+    /// How the call ended, and the bytes it took.
+    fn call(list: &[u8], areas: Areas, piece: &[u8], state: &mut Self::State) -> (Outcome, usize);
+}
+
+impl Side for Library {
+    type State = muongrabi::State;
+    fn digest(bytes: &[u8]) -> Hash {
+        muongrabi::digest(bytes)
+    }
+    fn open(list: &[u8], lengths: Lengths) -> Result<muongrabi::State, usize> {
+        muongrabi::open(list, lengths).map_err(|refusal| refusal.number())
+    }
+    fn call(list: &[u8], areas: Areas, piece: &[u8], state: &mut muongrabi::State) -> (Outcome, usize) {
+        let called = muongrabi::call(list, areas, piece, state);
+        (outcome_of(called.outcome), called.taken)
+    }
+}
+
+impl Side for Plain {
+    type State = reference::State;
+    fn digest(bytes: &[u8]) -> Hash {
+        digest(bytes)
+    }
+    fn open(list: &[u8], lengths: Lengths) -> Result<reference::State, usize> {
+        let state = plain::open(list, lengths.image, lengths.stash, lengths.work);
+        match state.refusal.number {
+            0 => Ok(state),
+            number => Err(number),
+        }
+    }
+    fn call(list: &[u8], areas: Areas, piece: &[u8], state: &mut reference::State) -> (Outcome, usize) {
+        let answer = plain::call(list, areas.image, areas.stash, areas.work, piece, *state);
+        *state = answer.state;
+        (answer.outcome, answer.taken)
+    }
+}
+
+/// The times of one side and of the other, run by run.
+type Times = Vec<(Duration, Duration)>;
+
+/// Nine runs of each of the two, after one that is not counted.
+fn turns(mut ours: impl FnMut() -> Duration, mut plain: impl FnMut() -> Duration) -> Times {
+    ours();
+    plain();
+    (0..RUNS)
+        .map(|k| {
+            if k % 2 == 0 {
+                let first = ours();
+                (first, plain())
+            } else {
+                let first = plain();
+                (ours(), first)
+            }
+        })
+        .collect()
+}
+
+fn sorted<T: PartialOrd>(values: impl Iterator<Item = T>) -> Vec<T> {
+    let mut all: Vec<T> = values.collect();
+    all.sort_by(|a, b| a.partial_cmp(b).unwrap_or(std::cmp::Ordering::Equal));
+    all
+}
+
+#[repr(C)]
+struct Timespec {
+    seconds: i64,
+    nanoseconds: i64,
+}
+
+extern "C" {
+    fn clock_gettime(clock: i32, time: *mut Timespec) -> i32;
+}
+
+/// The processor time of this thread: what other programs take does not count.
+fn processor_time() -> Duration {
+    const THREAD: i32 = 3;
+    let mut now = Timespec { seconds: 0, nanoseconds: 0 };
+    // SAFETY: one struct is lent to be written.
+    assert!(unsafe { clock_gettime(THREAD, &mut now) } == 0);
+    Duration::new(now.seconds as u64, now.nanoseconds as u32)
+}
+
+fn timed(f: impl FnOnce()) -> Duration {
+    let start = processor_time();
+    f();
+    processor_time() - start
+}
+
+/// A value that is used, for all the compiler knows.
+fn keep<T>(value: T) {
+    black_box(value);
+}
+
+fn text(time: Duration) -> String {
+    let ns = time.as_nanos() as f64;
+    match ns {
+        _ if ns < 1e4 => format!("{ns:.0} ns"),
+        _ if ns < 1e7 => format!("{:.1} us", ns / 1e3),
+        _ => format!("{:.1} ms", ns / 1e6),
+    }
+}
+
+/// One line: both times, their ratio, and the speed of each over so many bytes.
+fn line(name: &str, times: Times, bytes: usize) {
+    let ours = sorted(times.iter().map(|t| t.0))[RUNS / 2];
+    let plain = sorted(times.iter().map(|t| t.1))[RUNS / 2];
+    let ratios = sorted(times.iter().map(|t| t.0.as_secs_f64() / t.1.as_secs_f64().max(1e-12)));
+    let speed = |time: Duration| bytes as f64 / 1e6 / time.as_secs_f64().max(1e-12);
+    print!("{name:<48} {:>12} {:>12} {:>7.2} ({:.2} to {:.2})", text(ours), text(plain), ratios[RUNS / 2], ratios[0], ratios[RUNS - 1]);
+    if bytes > 0 {
+        print!("   {:.1} and {:.1} MB/s", speed(ours), speed(plain));
+    }
+    println!();
+}
+
+fn some_bytes(n: usize) -> Vec<u8> {
+    let mut rng = Rng::new(9);
+    (0..n.div_ceil(8)).flat_map(|_| rng.next_u64().to_le_bytes()).take(n).collect()
+}
+
+fn digests<S: Side>() {
+    for (name, size) in [("64 bytes", 64), ("4 KiB", 4_096), ("64 KiB", 65_536), ("1 MiB", 1 << 20)] {
+        let bytes = some_bytes(size);
+        assert_eq!(S::digest(&bytes), digest(&bytes));
+        let repeats = ((4 << 20) / size) as u32;
+        let times = turns(|| digest_times::<S>(&bytes, repeats), || digest_times::<Plain>(&bytes, repeats));
+        line(&format!("digest, {name}"), times, size);
+    }
+}
+
+fn digest_times<S: Side>(bytes: &[u8], repeats: u32) -> Duration {
+    timed(|| (0..repeats).for_each(|_| keep(S::digest(black_box(bytes))))) / repeats
+}
+
+const MOVES: usize = 2_000;
+const PART: usize = 16;
+
+fn moves<S: Side>() {
+    let blocks = 4_096;
+    let start = some_bytes(blocks * BLOCK);
+    let mut rng = Rng::new(3);
+    let mut image = start.clone();
+    let mut list = "3\n0\n0\n0\n".to_string();
+    for _ in 0..MOVES {
+        let (from, to) = (rng.below(blocks - PART), rng.below(blocks - PART));
+        let hash = digest(&image[from * BLOCK..(from + PART) * BLOCK]);
+        image.copy_within(from * BLOCK..(from + PART) * BLOCK, to * BLOCK);
+        list += &format!("move {} 2,{to},{} {PART} 2,{from},{}\n", hex(&hash), to + PART, from + PART);
+    }
+    // Each side on an image and a work area of its own.
+    let (mut ours_image, mut plain_image) = (start.clone(), start.clone());
+    let (mut ours_work, mut plain_work) = (vec![0; PART * BLOCK], vec![0; PART * BLOCK]);
+    let list = list.as_bytes();
+    let times = turns(
+        || move_times::<S>(list, &start, Areas { image: &mut ours_image, stash: &mut [], work: &mut ours_work }),
+        || move_times::<Plain>(list, &start, Areas { image: &mut plain_image, stash: &mut [], work: &mut plain_work }),
+    );
+    assert!(ours_image == plain_image && ours_image == image, "the images differ");
+    line("2,000 moves of 16 blocks, opened and run", times, MOVES * PART * BLOCK);
+}
+
+/// Opens the list and runs it, from this image.
+fn move_times<S: Side>(list: &[u8], start: &[u8], mut areas: Areas) -> Duration {
+    areas.image.copy_from_slice(start);
+    timed(|| {
+        let Ok(mut state) = S::open(list, areas.lengths()) else { panic!("the moves do not open") };
+        assert_eq!(S::call(list, areas.reborrow(), &[], &mut state).0, Outcome::Done);
+    })
+}
+
+/// Lines up to the greatest length of a list.
+fn fill_list(header: &str, mut next: impl FnMut(usize) -> String) -> Vec<u8> {
+    let mut list = header.to_string();
+    for k in 0.. {
+        let line = next(k);
+        if list.len() + line.len() > MOST_LIST {
+            break;
+        }
+        list += &line;
+    }
+    list.into_bytes()
+}
+
+/// An opening that is short is repeated, so that a run takes a millisecond at least.
+fn opening<S: Side>(name: &str, list: &[u8], lengths: Lengths, wanted: usize) {
+    let Lengths { image, stash, work } = lengths;
+    let state = Plain.open(list, image, stash, work);
+    assert_eq!(Library.open(list, image, stash, work), state);
+    assert_eq!(state.refusal.number, wanted, "{name} at line {}", state.refusal.line);
+    let repeats = (1_000_000 / open_times::<Plain>(list, lengths, 1).as_nanos().max(1) as u32).max(1);
+    let times = turns(|| open_times::<S>(list, lengths, repeats), || open_times::<Plain>(list, lengths, repeats));
+    line(&format!("open, {name}"), times, if wanted == 0 { list.len() } else { 0 });
+}
+
+fn open_times<S: Side>(list: &[u8], lengths: Lengths, repeats: u32) -> Duration {
+    timed(|| (0..repeats).for_each(|_| keep(S::open(black_box(list), lengths)))) / repeats
+}
+
+fn openings<S: Side>() {
+    let mut rng = Rng::new(4);
+    let image = 524_288;
+    let areas = Lengths { image: image * BLOCK, stash: 4_096 * BLOCK, work: 4_096 * BLOCK };
+    let name = |k: usize| hex(&digest(&k.to_le_bytes()));
+
+    // What builders write: moves, some stashes with the moves that use them, erased and zeroed ranges.
+    let ordinary = fill_list("3\n0\n64\n4096\n", |k| {
+        let n = rng.between(1, 60);
+        let (to, from) = (rng.below(image - n), rng.below(image - n));
+        let h = name(k);
+        match k % 10 {
+            0 => format!("stash {h} 4,{from},{},{to},{to}\nmove {h} 2,{to},{} {n} - {h}:2,0,{n}\nfree {h}\n", from + n, to + n),
+            1 => format!(
+                "stash {h} 2,{from},{}\nmove {h} 2,{to},{} {} 2,{to},{} 2,0,1 {h}:2,1,{}\nfree {h}\n",
+                from + n,
+                to + n + 1,
+                n + 1,
+                to + 1,
+                n + 1
+            ),
+            2 => {
+                let pairs: Vec<String> = (0..20).map(|j| format!("{},{}", j * 25_000 + k % 100, j * 25_000 + 200)).collect();
+                format!("erase 40,{}\n", pairs.join(","))
+            }
+            3 => format!("zero 2,{to},{}\n", to + n),
+            _ => format!("move {h} 2,{to},{} {n} 2,{from},{}\n", to + n, from + n),
+        }
+    });
+    opening::<S>("4 MiB of ordinary lines", &ordinary, areas, 0);
+
+    let ranges = format!("3\n0\n0\n0\nzero 2000000{}\n", ",0,0".repeat(1_000_000));
+    opening::<S>("one line of a million ranges", ranges.as_bytes(), areas, 0);
+    let lines = format!("3\n0\n0\n0\n{}", "new 2,0,0\n".repeat(400_000));
+    opening::<S>("400,000 lines of ten bytes", lines.as_bytes(), areas, 0);
+    let names: Vec<String> = (0..1_000).map(name).collect();
+    let hashes = fill_list("3\n0\n1\n0\n", |k| {
+        let h = &names[k % names.len()];
+        format!("stash {h} 2,0,0\nfree {h}\n")
+    });
+    opening::<S>("a list full of hashes", &hashes, areas, 0);
+
+    let h = name(0);
+    let wide = fill_list(&format!("3\n0\n1\n1\nstash {h} 2,0,1\n"), |_| format!("move {h} 2,0,2 2 2,0,1 2,0,4294967295 {h}:2,0,4294967295\n"));
+    opening::<S>("L of 2,0,4294967295 in every line", &wide, areas, 11);
+    let far = fill_list(&format!("3\n0\n1\n1\nstash {h} 2,0,1\n"), |_| {
+        format!("move {h} 2,0,2 2 2,0,1 4,0,1,4294967295,4294967295 {h}:4,1,2,4294967295,4294967295\n")
+    });
+    opening::<S>("empty ranges at 4294967295 in every L", &far, areas, 0);
+
+    let stashes: String = (0..64).map(|k| format!("stash {} 2,{k},{}\n", name(k), k + 1)).collect();
+    let parts: String = (0..64).map(|k| format!(" {}:2,{k},{}", name(63 - k), k + 1)).collect();
+    let all = fill_list(&format!("3\n0\n64\n64\n{stashes}"), |_| format!("move {h} 2,0,64 64 -{parts}\n"));
+    opening::<S>("64 stashes, every move naming all", &all, areas, 0);
+    let places = fill_list(&format!("3\n0\n1\n4096\nstash {h} 2,0,4096\n"), |_| format!("move {h} 2,0,4096 4096 - {h}:2,0,4096\n"));
+    opening::<S>("4,096 places in every line", &places, areas, 0);
+    let single: String = (0..4_096).map(|k| format!(",{k},{}", k + 1)).collect();
+    let ragged = fill_list(&format!("3\n0\n1\n4096\nstash {h} 2,0,4096\n"), |_| format!("move {h} 2,0,4096 4096 - {h}:8192{single}\n"));
+    opening::<S>("4,096 places, each a range of its own", &ragged, areas, 0);
+}
+
+fn new_data<S: Side>() {
+    for (name, before) in [("", 0), (", a 1 MiB list before it", 1 << 20)] {
+        for (size, bytes) in [(1usize, 16usize << 10), (64, 1 << 20), (4_096, 16 << 20), (65_536, 16 << 20)] {
+            let bytes = if before > 0 { (size * 64).min(bytes) } else { bytes };
+            let blocks = bytes.div_ceil(BLOCK);
+            let mut list = format!("3\n{blocks}\n0\n0\n");
+            while list.len() < before {
+                list += "zero 6,0,0,1,1,2,2\n";
+            }
+            list += &format!("new 2,0,{blocks}\n");
+            let data = some_bytes(bytes);
+            let list = list.as_bytes();
+            let mut image = vec![0u8; blocks.max(2) * BLOCK];
+            let mut plain_image = image.clone();
+            let times =
+                turns(|| new_times::<S>(list, &mut image, data.chunks(size)), || new_times::<Plain>(list, &mut plain_image, data.chunks(size)));
+            assert!(image == plain_image && image[..bytes] == data[..]);
+            line(&format!("new, pieces of {size}{name}"), times, bytes);
+        }
+    }
+}
+
+/// A call for each piece; the opening is not timed.
+fn new_times<'a, S: Side>(list: &[u8], image: &mut [u8], pieces: impl Iterator<Item = &'a [u8]>) -> Duration {
+    let mut areas = Areas { image, stash: &mut [], work: &mut [] };
+    let Ok(mut state) = S::open(list, areas.lengths()) else { panic!("the list does not open") };
+    timed(|| {
+        for piece in pieces {
+            let (outcome, taken) = S::call(list, areas.reborrow(), piece, &mut state);
+            assert!(!matches!(outcome, Outcome::Refused(_)) && taken == piece.len());
+        }
+    })
+}

@@ -1,0 +1,144 @@
+//! Real sizes: an image of 65,536 blocks, thousands of commands, stashes of thousands of blocks and a list of several MiB,
+//! the library compared with the plain implementation after every call; then positions at the far end of the largest image.
+//! usage: large [--seed S] [--commands N] [--self]   (--self takes the slow model in the library's place)
+
+use check::generate::{Blocks, Rng, Sizes, World};
+use check::{Implementation, Library, Model, Plain};
+use reference::{plain, Answer, Outcome, State, BLOCK, MOST_IMAGE};
+use std::time::{Duration, Instant};
+
+fn main() {
+    let mut seed = 1u64;
+    let mut commands = 6_000usize;
+    let mut itself = false;
+    let mut words = std::env::args().skip(1);
+    while let Some(word) = words.next() {
+        let mut value = || words.next().and_then(|text| text.parse().ok()).unwrap_or_else(|| usage());
+        match word.as_str() {
+            "--seed" => seed = value(),
+            "--commands" => commands = value() as usize,
+            "--self" => itself = true,
+            _ => usage(),
+        }
+    }
+    let other: &dyn Implementation = if itself { &Model } else { &Library };
+    println!("seed {seed}");
+    let results = [real(other, seed, commands), far_end(other, !itself)];
+    let failed = results.iter().filter(|result| result.is_err()).count();
+    for difference in results.iter().filter_map(|result| result.as_ref().err()) {
+        println!("{difference}");
+    }
+    println!("{} passed, {failed} failed", results.len() - failed);
+    std::process::exit((failed > 0) as i32);
+}
+
+fn usage() -> ! {
+    eprintln!("usage: large [--seed S] [--commands N] [--self]");
+    std::process::exit(2)
+}
+
+fn real(other: &dyn Implementation, seed: u64, commands: usize) -> Result<(), String> {
+    let mut rng = Rng::new(seed);
+    let mut blocks = Blocks::new();
+    let sizes = Sizes { image: 65_536, area: 4_096, commands, most: 4_096, bytes: 4_100_000 };
+    let mut world = World::good(&mut rng, &mut blocks, &sizes);
+    (world.stash, world.work) = (4_096, 4_096);
+    let list = world.list();
+    let data = blocks.lay(&world.data);
+    println!(
+        "image 65,536 blocks, list {} bytes, {} commands, most held {} in {} blocks, new data {} blocks",
+        list.len(),
+        world.commands.len(),
+        world.header[2],
+        world.header[3],
+        world.data.len()
+    );
+    let mut image = blocks.lay(&world.image);
+    let mut stash = vec![0x5a; world.stash * BLOCK];
+    let mut work = vec![0xa5; world.work * BLOCK];
+    let (mut other_image, mut other_stash, mut other_work) = (image.clone(), stash.clone(), work.clone());
+    // A call takes long enough here that the library's states, which are converted for it, do not show in its time.
+    let mut times = [Duration::ZERO; 2];
+    let mut timed = |which: usize, start: Instant| times[which] += start.elapsed();
+
+    let start = Instant::now();
+    let mut state = plain::open(&list, image.len(), stash.len(), work.len());
+    timed(0, start);
+    let start = Instant::now();
+    let theirs = other.open(&list, image.len(), stash.len(), work.len());
+    timed(1, start);
+    if state != theirs || state.refusal.number != 0 {
+        return Err(format!("open: {:?} and {:?}", state.refusal, theirs.refusal));
+    }
+    let mut rest = &data[..];
+    let mut calls = 0;
+    loop {
+        let (piece, after) = rest.split_at(rest.len().min(rng.between(0, 8 << 20)));
+        rest = after;
+        calls += 1;
+        let start = Instant::now();
+        let ours = plain::call(&list, &mut image, &mut stash, &mut work, piece, state);
+        timed(0, start);
+        let start = Instant::now();
+        let theirs = other.call(&list, &mut other_image, &mut other_stash, &mut other_work, piece, state);
+        timed(1, start);
+        if ours != theirs {
+            return Err(format!("call {calls}: {} and {}", said(&ours), said(&theirs)));
+        }
+        if image != other_image || stash != other_stash || work != other_work {
+            return Err(format!("call {calls}: an area differs"));
+        }
+        state = ours.state;
+        match ours.outcome {
+            Outcome::Done => break,
+            Outcome::More => {}
+            Outcome::Refused(_) => return Err(format!("call {calls}: {}", said(&ours))),
+        }
+    }
+    println!("done in {calls} calls; plain {:.2} s, other {:.2} s", times[0].as_secs_f64(), times[1].as_secs_f64());
+    Ok(())
+}
+
+fn said(answer: &Answer) -> String {
+    format!("{:?} taken {}, the state holds {:?}", answer.outcome, answer.taken, answer.state.refusal)
+}
+
+/// The largest image, of which only a few pages are ever touched: bytes into a `new` past 32 bits.
+fn far_end(other: &dyn Implementation, fast: bool) -> Result<(), String> {
+    let whole = MOST_IMAGE * BLOCK;
+    for (list, into, most) in [
+        (&b"3\n1048576\n0\n0\nnew 2,0,1048576\n"[..], whole - 7, whole),
+        (b"3\n2097152\n0\n0\nnew 4,0,1048576,0,1048576\n", 2 * whole - 7, whole),
+        (b"3\n2097152\n0\n0\nnew 4,0,1048576,0,1048576\n", whole + 3, whole),
+        (b"3\n1\n0\n0\nzero 2,1048575,1048576\nnew 2,1048575,1048576\n", 0, whole),
+        (b"3\n0\n0\n0\nzero 2,1048576,1048576\n", 0, whole),
+        (b"3\n0\n0\n0\n", 0, whole + BLOCK),
+    ] {
+        let mut ends = Vec::new();
+        let all: Vec<&dyn Implementation> = if fast { vec![&Plain, other] } else { vec![&Plain] };
+        for on in all {
+            // Zeroed memory that is mapped only where it is touched.
+            let mut image = vec![0u8; most];
+            let mut state = on.open(list, most, 0, 0);
+            if most > whole {
+                if state.refusal.number != 1 {
+                    return Err(format!("an image of {most} bytes: {:?}", state.refusal));
+                }
+                state = State { line: 5, at: 8, ..State::ZERO };
+                (state.lengths.list, state.lengths.image) = (list.len(), most);
+            }
+            state.into = into;
+            let answer = on.call(list, &mut image, &mut [], &mut [], b"0123456789", state);
+            let touched: Vec<u8> = [&image[..BLOCK], &image[whole - BLOCK..whole]].concat();
+            ends.push((answer, touched));
+        }
+        if ends.windows(2).any(|two| two[0] != two[1]) {
+            return Err(format!("{}: {} and {}", String::from_utf8_lossy(list), said(&ends[0].0), said(&ends[1].0)));
+        }
+        if matches!(ends[0].0.outcome, Outcome::Refused(_)) != (most > whole) {
+            return Err(format!("{}: {}", String::from_utf8_lossy(list), said(&ends[0].0)));
+        }
+    }
+    println!("the far end of 1,048,576 blocks is reached");
+    Ok(())
+}

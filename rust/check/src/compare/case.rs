@@ -1,0 +1,214 @@
+//! One seeded case: a list, good or spoiled, opened and called.
+
+use super::{answer_text, Checker, Lent};
+use crate::generate::{damage, disturb, line_starts, other_header, Pieces, Rng, Sizes, World};
+use reference::{model, plain, Outcome, State, BLOCK};
+use std::iter::repeat;
+
+impl Checker<'_> {
+    /// One case; the difference, if there is one.
+    pub fn case(&mut self, seed: u64, index: u64) -> Result<(), String> {
+        let mut rng = Rng::of_case(seed, index);
+        self.behind = rng.percent(70);
+        if rng.one_in(20) {
+            self.digest(&mut rng)?;
+        }
+        if rng.one_in(40_000) {
+            return self.longest(&mut rng);
+        }
+        let sizes = any_sizes(&mut rng);
+        let world = World::good(&mut rng, &mut self.blocks, &sizes);
+        let list = any_list(&mut rng, &world);
+        let lent = Lent {
+            list,
+            image: self.blocks.lay(&world.image),
+            stash: self.blocks.lay(&(0..world.stash).map(|k| 230 + k as u8 % 20).collect::<Vec<_>>()),
+            work: self.blocks.lay(&(0..world.work).map(|k| 210 + k as u8 % 20).collect::<Vec<_>>()),
+        };
+        let lengths = (lent.image.len(), lent.stash.len(), lent.work.len());
+        if rng.one_in(30) {
+            self.odd_lengths(&mut rng, &lent)?;
+        }
+        let mut state = self.open(&lent.list, lengths.0, lengths.1, lengths.2)?;
+        let accepted = state.refusal.number == 0;
+        if !accepted {
+            match rng.below(10) {
+                0 | 1 => {}
+                2..=8 => {
+                    // Run it all the same, as if it had been altered after opening.
+                    let starts = line_starts(&lent.list);
+                    state = plain::open(&world.list(), lengths.0, lengths.1, lengths.2);
+                    state.lengths.list = lent.list.len();
+                    if rng.percent(80) {
+                        state.at = starts.get(4).copied().unwrap_or(state.at);
+                    }
+                }
+                _ => return Ok(()),
+            }
+        }
+        self.lend(&lent);
+        let mut data = self.blocks.lay(&world.data);
+        match rng.below(10) {
+            0..=2 => data.truncate(rng.below(data.len() + 1)),
+            3 => data.extend((0..rng.between(1, 5_000)).map(|k| k as u8)),
+            _ => {}
+        }
+        let pieces = Pieces::cut(&mut rng, data);
+        if !accepted && state.refusal.number != 0 && rng.percent(50) {
+            return self.run(&lent, &pieces);
+        }
+        let trouble = rng.percent(if accepted { 30 } else { 20 });
+        if accepted && !trouble && rng.percent(40) {
+            return self.sequence(&mut rng, lent, &pieces, state);
+        }
+        self.calls(&mut rng, &world, lent, &pieces, state, trouble)
+    }
+
+    /// All pieces and sometimes a call or two more; with trouble, something is altered before one of them.
+    fn calls(&mut self, rng: &mut Rng, world: &World, mut lent: Lent, pieces: &Pieces, mut state: State, trouble: bool) -> Result<(), String> {
+        let Pieces { data, cuts } = pieces;
+        let steps = cuts.len() + 1 + rng.pick(&[0, 0, 1, 2]);
+        let when = if trouble { rng.below(steps) } else { usize::MAX };
+        let mut done = false;
+        for (step, mut piece) in pieces.each().chain(repeat(&[][..])).take(steps).enumerate() {
+            if step > cuts.len() && rng.percent(50) {
+                piece = &data[..data.len().min(100)];
+            }
+            let kept = (step == when).then(|| (lent.clone(), state));
+            if step == when {
+                alter(rng, world, &mut lent, &mut state);
+            }
+            let mut answer = self.call(&mut lent, piece, state)?;
+            if let Some((before, state)) = kept {
+                if answer.outcome.number() == 17 && rng.percent(60) {
+                    // 17 is not kept: with everything as it was, the run goes on.
+                    lent = before;
+                    self.lend(&lent);
+                    answer = self.call(&mut lent, piece, state)?;
+                }
+            }
+            self.coverage.after_done += done as u64;
+            done |= answer.outcome == Outcome::Done;
+            state = answer.state;
+        }
+        Ok(())
+    }
+
+    /// Calls one after another, then the model over all pieces joined, and a run over the same cuts.
+    fn sequence(&mut self, rng: &mut Rng, lent: Lent, pieces: &Pieces, opened: State) -> Result<(), String> {
+        let mut now = lent.clone();
+        let mut state = opened;
+        let mut joined = 0;
+        let mut taken = 0;
+        let steps = rng.below(pieces.cuts.len() + 1) + 1;
+        let mut last = None;
+        for piece in pieces.each().take(steps) {
+            let answer = self.call(&mut now, piece, state)?;
+            joined += piece.len();
+            taken += answer.taken;
+            state = answer.state;
+            last = Some(answer);
+        }
+        let Some(mut last) = last else { return Ok(()) };
+        last.taken = taken;
+        let mut fresh = lent.clone();
+        let whole = model::call(&fresh.list, &mut fresh.image, &mut fresh.stash, &mut fresh.work, &pieces.data[..joined], opened);
+        self.coverage.sequences += 1;
+        // Once refused, the taken bytes and the state agree too: the refusal stands at the same line.
+        if whole != last || fresh.image != now.image || fresh.stash != now.stash || fresh.work != now.work {
+            return Err(format!("the calls end otherwise than the model: {} and {}", answer_text(&last), answer_text(&whole)));
+        }
+        if rng.percent(60) {
+            self.run(&lent, pieces)?;
+        }
+        Ok(())
+    }
+}
+
+/// Alters the state, the list or an area's length between two calls.
+fn alter(rng: &mut Rng, world: &World, lent: &mut Lent, state: &mut State) {
+    match rng.below(14) {
+        0..=6 => {
+            for _ in 0..rng.pick(&[1, 1, 2, 3]) {
+                disturb(rng, state, &lent.list);
+            }
+        }
+        7 => {
+            // Another text of the same length.
+            for _ in 0..rng.between(1, 3) {
+                let at = if rng.percent(70) { state.at.min(lent.list.len()) } else { 0 };
+                let room = lent.list.len() - at;
+                if room > 0 {
+                    let k = at + rng.below(room.min(200));
+                    lent.list[k] = rng.pick(b"0123456789abcdef, :-\n\nzx");
+                }
+            }
+        }
+        8 | 9 => {
+            // A spoiled list, mostly with its length in the state.
+            let before = lent.list.len();
+            if rng.percent(50) {
+                damage(rng, &mut lent.list);
+            } else {
+                let mut spoiled = world.clone();
+                spoiled.spoil(rng);
+                lent.list = spoiled.list();
+            }
+            if rng.percent(70) && state.lengths.list == before {
+                state.lengths.list = lent.list.len();
+            }
+        }
+        10 | 11 => {
+            // An area of another length, mostly with that length in the state.
+            let known = rng.percent(60);
+            let (area, length) = match rng.below(4) {
+                0 | 3 => (&mut lent.image, &mut state.lengths.image),
+                1 => (&mut lent.stash, &mut state.lengths.stash),
+                _ => (&mut lent.work, &mut state.lengths.work),
+            };
+            let old = area.len();
+            let fewer = rng.below(old / BLOCK + 1) * BLOCK;
+            let new = rng.pick(&[old + 1, old.saturating_sub(1), old + BLOCK, old.saturating_sub(BLOCK), 0, fewer, fewer]);
+            area.resize(new, 0xaa);
+            if known {
+                *length = new;
+            }
+        }
+        _ => {
+            // Another header, mostly with all else in its place.
+            let before = lent.list.len();
+            other_header(rng, &mut lent.list, lent.stash.len() / BLOCK);
+            if rng.percent(85) && state.lengths.list == before {
+                state.lengths.list = lent.list.len();
+                state.at = state.at.wrapping_add(lent.list.len()).wrapping_sub(before);
+            }
+        }
+    }
+}
+
+/// Mostly a few blocks, now and then many.
+fn any_sizes(rng: &mut Rng) -> Sizes {
+    match rng.below(400) {
+        0 => Sizes::small(rng.between(20, 300), rng.between(8, 80), rng.between(20, 150)),
+        1..=3 => Sizes::small(rng.between(8, 40), rng.between(40, 130), rng.between(60, 200)),
+        4..=20 => Sizes::small(0, rng.below(3), rng.below(6)),
+        _ => Sizes::small(rng.between(1, 12), rng.between(0, 6), rng.between(0, 10)),
+    }
+}
+
+/// The world's list, in a third of all cases as it is, else spoiled.
+fn any_list(rng: &mut Rng, world: &World) -> Vec<u8> {
+    let kind = rng.below(100);
+    let mut world = world.clone();
+    match kind {
+        0..=34 | 65..=82 => {}
+        35..=64 => (0..rng.pick(&[1, 1, 1, 2, 3])).for_each(|_| world.spoil(rng)),
+        83..=85 => world.spoil(rng),
+        _ => world.wrong_hash(rng),
+    }
+    let mut list = world.list();
+    if let 65..=85 = kind {
+        damage(rng, &mut list);
+    }
+    list
+}

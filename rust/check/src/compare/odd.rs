@@ -1,0 +1,92 @@
+//! Digests, lengths that no memory here has, and the longest lists.
+
+use super::{Checker, Lent};
+use crate::generate::Rng;
+use crate::hex;
+use reference::{digest, BLOCK, MOST_AREA, MOST_IMAGE, MOST_LIST};
+
+impl Checker<'_> {
+    pub(super) fn digest(&mut self, rng: &mut Rng) -> Result<(), String> {
+        let mut length = rng.pick(&[0, 1, 55, 56, 57, 63, 64, 65, 119, 120, 127, 128, 129, 4_096]);
+        if rng.percent(50) {
+            length = rng.below(300);
+        }
+        let id = rng.between(0, 255) as u8;
+        let mut bytes = self.blocks.block(id)[..length].to_vec();
+        for _ in 0..4 {
+            if length > 0 {
+                bytes[rng.below(length)] = rng.next_u64() as u8;
+            }
+        }
+        self.piece.set(&bytes, self.behind);
+        self.coverage.digests += 1;
+        let (ours, theirs) = (digest(&bytes), self.other.digest(self.piece.bytes()));
+        self.note(|| format!("digest of {}: {} and {}", hex(&bytes), hex(&ours), hex(&theirs)));
+        if ours != theirs {
+            return Err("digest differs".into());
+        }
+        Ok(())
+    }
+
+    /// Openings for areas of lengths that no memory here has.
+    pub(super) fn odd_lengths(&mut self, rng: &mut Rng, lent: &Lent) -> Result<(), String> {
+        let image = MOST_IMAGE * BLOCK;
+        let area = MOST_AREA * BLOCK;
+        for _ in 0..3 {
+            let odd = |rng: &mut Rng, most: usize, real: usize| {
+                if rng.percent(55) {
+                    return real;
+                }
+                rng.pick(&[
+                    0,
+                    1,
+                    BLOCK - 1,
+                    BLOCK + 1,
+                    most - BLOCK,
+                    most - 1,
+                    most,
+                    most,
+                    most + 1,
+                    most + BLOCK,
+                    usize::MAX,
+                    usize::MAX - BLOCK + 1,
+                    1 << 63,
+                ])
+            };
+            let i = odd(rng, image, lent.image.len());
+            let s = odd(rng, area, lent.stash.len());
+            let w = odd(rng, area, lent.work.len());
+            self.open(&lent.list, i, s, w)?;
+        }
+        if rng.one_in(6) {
+            // One byte too many, or just not, with a good or a bad header.
+            let mut long = lent.list.clone();
+            long.resize(MOST_LIST + rng.below(3), b'\n');
+            let odd = rng.below(5) / 4;
+            self.open(&long, lent.image.len() + odd, lent.stash.len(), lent.work.len())?;
+        }
+        Ok(())
+    }
+
+    /// A list of the greatest length, and one byte more.
+    pub(super) fn longest(&mut self, rng: &mut Rng) -> Result<(), String> {
+        // Lines of 11 and 12 bytes fill any length.
+        let mut list = b"3\n0\n0\n0\n".to_vec();
+        let body = MOST_LIST - list.len();
+        let longer = body % 11;
+        let x = rng.between(0, 4);
+        for _ in 0..(body - 12 * longer) / 11 {
+            list.extend_from_slice(format!("zero 2,{x},{x}\n").as_bytes());
+        }
+        for _ in 0..longer {
+            list.extend_from_slice(b"erase 2,0,1\n");
+        }
+        let mut lent = Lent { list, image: self.blocks.lay(&[1, 2, 3, 4]), stash: Vec::new(), work: Vec::new() };
+        if rng.percent(30) {
+            lent.list.push(b'\n');
+        }
+        let state = self.open(&lent.list, lent.image.len(), 0, 0)?;
+        self.lend(&lent);
+        self.call(&mut lent, b"", state).map(|_| ())
+    }
+}

@@ -1,0 +1,268 @@
+//! How often each thing occurred in a series of cases.
+
+use crate::generate::line_starts;
+use crate::hex;
+use reference::{plain, Answer, Lengths, Outcome, State, BLOCK, MOST_STASHES};
+use std::fmt::Write;
+
+/// Lines that ran, by what they are.
+pub const LINES: [&str; 8] = ["zero", "erase", "new", "stash", "free", "move one", "move two", "move three"];
+
+/// Kinds of lines that ran, each easy to miss.
+pub const KINDS: [&str; 10] = [
+    "a source of two stashes or more",
+    "one stash twice in a source",
+    "a stash not at the area's front",
+    "a stash over parted places",
+    "a target over its own source",
+    "a target that names a block twice",
+    "an empty range",
+    "a stash of no blocks",
+    "a hash stashed again",
+    "younger stashes moved down",
+];
+
+/// What makes a state impossible, in document 01's order; the first that applies is counted. The second to the sixth: what the areas
+/// and the header would now give.
+pub const CAUSES: [&str; 12] = [
+    "a length",
+    "areas, 1",
+    "list length, 2",
+    "header, 3",
+    "version, 4",
+    "header limits, 5",
+    "position",
+    "line number",
+    "over 64 stashes",
+    "one hash twice",
+    "blocks held",
+    "bytes into a new",
+];
+
+/// The cause that takes a list of over 4 MiB: too slow for every run, and tried by a test of its own.
+const LONG_LIST: usize = 2;
+
+#[derive(Default, Clone)]
+pub struct Coverage {
+    /// Openings by refusal number, 0 for accepted.
+    pub opened: [u64; 18],
+    /// Calls by outcome.
+    pub done: u64,
+    pub more: u64,
+    pub refused: u64,
+    /// Refused calls by number where the state held none before; the last for any other number.
+    pub numbers: [u64; 19],
+    /// Calls refused with 17, by cause.
+    pub causes: [u64; CAUSES.len()],
+    /// Calls that repeated a refusal.
+    pub repeated: u64,
+    /// Calls after a call that said done.
+    pub after_done: u64,
+    /// Empty pieces.
+    pub empty: u64,
+    /// Calls that stopped within a block.
+    pub within: u64,
+    /// Whole sequences held to the model over the joined pieces, and runs over cuts.
+    pub sequences: u64,
+    pub runs: u64,
+    pub digests: u64,
+    pub lines: [u64; LINES.len()],
+    pub kinds: [u64; KINDS.len()],
+}
+
+impl Coverage {
+    pub fn report(&self) -> String {
+        let mut out = String::new();
+        let _ = writeln!(out, "number     opening        call");
+        for number in 1..=17 {
+            let _ = writeln!(out, "{number:>6} {:>11} {:>11}", self.opened[number], self.numbers[number]);
+        }
+        let _ = writeln!(out, "accepted openings {}, refused {}", self.opened[0], self.opened[1..].iter().sum::<u64>());
+        let _ = writeln!(out, "calls: done {}, more {}, refused {}", self.done, self.more, self.refused);
+        let _ = writeln!(
+            out,
+            "of these: refusals repeated {}, other numbers {}, after done {}, empty pieces {}, stopped within a block {}",
+            self.repeated, self.numbers[18], self.after_done, self.empty, self.within
+        );
+        let _ = writeln!(out, "17 by cause: {}", counted(&CAUSES, &self.causes));
+        let _ = writeln!(out, "lines that ran: {}", counted(&LINES, &self.lines));
+        let _ = writeln!(out, "of these: {}", counted(&KINDS, &self.kinds));
+        let _ = writeln!(out, "sequences held to the model {}, runs over cuts {}, digests {}", self.sequences, self.runs, self.digests);
+        out
+    }
+
+    /// What never occurred, of all that a default run must have.
+    pub fn missing(&self) -> Vec<String> {
+        let mut names = Vec::new();
+        let mut note = |name: String, n: u64| {
+            if n == 0 {
+                names.push(name)
+            }
+        };
+        (0..=15).for_each(|k| note(format!("an opening with {k}"), self.opened[k]));
+        (6..=14).chain(16..=17).for_each(|k| note(format!("a call with {k}"), self.numbers[k]));
+        CAUSES.iter().zip(self.causes).enumerate().filter(|(k, _)| *k != LONG_LIST).for_each(|(_, (name, n))| note(format!("17 by {name}"), n));
+        LINES.iter().zip(self.lines).for_each(|(name, n)| note(name.to_string(), n));
+        KINDS.iter().zip(self.kinds).for_each(|(name, n)| note(name.to_string(), n));
+        for (name, n) in [
+            ("done", self.done),
+            ("more", self.more),
+            ("a refusal repeated", self.repeated),
+            ("a call after done", self.after_done),
+            ("an empty piece", self.empty),
+            ("a stop within a block", self.within),
+            ("a sequence held to the model", self.sequences),
+            ("a run over cuts", self.runs),
+            ("a digest", self.digests),
+        ] {
+            note(name.to_string(), n);
+        }
+        names
+    }
+
+    pub fn open(&mut self, state: &State) {
+        self.opened[state.refusal.number.min(17)] += 1;
+    }
+
+    pub fn call(&mut self, list: &[u8], lengths: &Lengths, piece: &[u8], before: &State, answer: &Answer) {
+        match answer.outcome {
+            Outcome::Done => self.done += 1,
+            Outcome::More => self.more += 1,
+            Outcome::Refused(_) => self.refused += 1,
+        }
+        self.empty += piece.is_empty() as u64;
+        if before.refusal.number != 0 {
+            self.repeated += 1;
+            return;
+        }
+        if let Outcome::Refused(refusal) = answer.outcome {
+            self.numbers[refusal.number.min(18)] += 1;
+        }
+        if answer.outcome.number() == 17 {
+            self.causes[cause(list, lengths, before)] += 1;
+        } else {
+            self.within += (answer.outcome == Outcome::More && !answer.state.into.is_multiple_of(BLOCK)) as u64;
+            self.ran(&list[before.at..answer.state.at], before);
+        }
+    }
+
+    /// The lines that a call finished, from a possible state on.
+    fn ran(&mut self, lines: &[u8], from: &State) {
+        let mut held: Vec<(Vec<u8>, u64)> = (0..from.count).map(|k| (hash_of(from, k), from.sizes[k] as u64)).collect();
+        let mut freed: Vec<Vec<u8>> = Vec::new();
+        for line in lines.split(|c| *c == b'\n') {
+            let fields: Vec<&[u8]> = line.split(|c| *c == b' ').collect();
+            let sets: Vec<Vec<(u64, u64)>> = fields.iter().filter_map(|field| ranges(field)).collect();
+            let mut kinds = [false; KINDS.len()];
+            kinds[6] = sets.iter().flatten().any(|(start, end)| start == end);
+            let which = match fields[..] {
+                [b"zero", _] => 0,
+                [b"erase", _] => 1,
+                [b"new", _] => 2,
+                [b"stash", name, _] => {
+                    let size = blocks(&sets[0]);
+                    kinds[7] = size == 0;
+                    kinds[8] = freed.iter().any(|other| other == name);
+                    held.push((name.to_vec(), size));
+                    3
+                }
+                [b"free", name] => {
+                    let j = held.iter().position(|stash| stash.0 == name).unwrap_or(0);
+                    let gone = held.remove(j);
+                    kinds[9] = gone.1 > 0 && held[j..].iter().any(|younger| younger.1 > 0);
+                    freed.push(gone.0);
+                    4
+                }
+                [b"move", _, _, _, ref source @ ..] => {
+                    let parts: Vec<&[u8]> = source.iter().copied().filter(|field| field.contains(&b':')).map(|field| &field[..40]).collect();
+                    kinds[0] = parts.len() > 1;
+                    kinds[1] = (1..parts.len()).any(|k| parts[..k].contains(&parts[k]));
+                    kinds[2] = parts.iter().any(|name| behind(&held, name));
+                    kinds[3] = sets.iter().rev().take(parts.len()).any(|set| parted(set));
+                    kinds[4] = source[0] != b"-" && meet(&sets[0], &sets[1]);
+                    match (source[0], source.len()) {
+                        (_, 1) => 5,
+                        (b"-", _) => 6,
+                        _ => 7,
+                    }
+                }
+                _ => continue,
+            };
+            kinds[5] = which != 3 && which != 4 && (1..sets[0].len()).any(|k| meet(&sets[0][..k], &sets[0][k..k + 1]));
+            self.lines[which] += 1;
+            self.kinds.iter_mut().zip(kinds).for_each(|(n, is)| *n += is as u64);
+        }
+    }
+}
+
+fn counted(names: &[&str], counts: &[u64]) -> String {
+    let each: Vec<String> = names.iter().zip(counts).map(|(name, n)| format!("{name} {n}")).collect();
+    each.join("; ")
+}
+
+fn hash_of(state: &State, k: usize) -> Vec<u8> {
+    hex(&state.hashes[20 * k..20 * k + 20]).into_bytes()
+}
+
+/// The ranges of a set, after the hash where one stands before it.
+fn ranges(field: &[u8]) -> Option<Vec<(u64, u64)>> {
+    let text = field.splitn(2, |c| *c == b':').last()?;
+    let numbers: Vec<u64> = text.split(|c| *c == b',').map(|n| std::str::from_utf8(n).ok()?.parse().ok()).collect::<Option<_>>()?;
+    (numbers.len() > 2).then(|| numbers[1..].chunks_exact(2).map(|two| (two[0], two[1])).collect())
+}
+
+fn blocks(set: &[(u64, u64)]) -> u64 {
+    set.iter().map(|(start, end)| end - start).sum()
+}
+
+/// Some block is in both.
+fn meet(a: &[(u64, u64)], b: &[(u64, u64)]) -> bool {
+    a.iter().any(|x| b.iter().any(|y| x.0.max(y.0) < x.1.min(y.1)))
+}
+
+/// Its blocks do not stand in one row.
+fn parted(set: &[(u64, u64)]) -> bool {
+    let full: Vec<&(u64, u64)> = set.iter().filter(|(start, end)| start < end).collect();
+    full.windows(2).any(|two| two[0].1 != two[1].0)
+}
+
+/// The stash has blocks, and so has an older one.
+fn behind(held: &[(Vec<u8>, u64)], name: &[u8]) -> bool {
+    match held.iter().position(|stash| stash.0 == name) {
+        Some(j) => held[j].1 > 0 && held[..j].iter().any(|older| older.1 > 0),
+        None => false,
+    }
+}
+
+/// Why the state is impossible, as an index of CAUSES.
+fn cause(list: &[u8], lengths: &Lengths, state: &State) -> usize {
+    if *lengths != state.lengths {
+        return 0;
+    }
+    let header = match plain::header(list, lengths) {
+        Ok(header) => header,
+        Err(refusal) => return refusal.number,
+    };
+    let starts = line_starts(list);
+    let Ok(before) = starts.binary_search(&state.at) else { return 6 };
+    if state.at < header.after {
+        return 6;
+    }
+    if state.line != before + 1 {
+        return 7;
+    }
+    if state.count > MOST_STASHES {
+        return 8;
+    }
+    let mut names: Vec<Vec<u8>> = (0..state.count).map(|k| hash_of(state, k)).collect();
+    names.sort();
+    names.dedup();
+    if names.len() < state.count {
+        return 9;
+    }
+    let total: u128 = state.sizes[..state.count].iter().map(|size| *size as u128).sum();
+    if total > header.blocks as u128 {
+        return 10;
+    }
+    11
+}

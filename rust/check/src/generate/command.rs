@@ -1,0 +1,99 @@
+//! Commands and their text.
+
+use super::sets::Set;
+use crate::hex;
+use reference::Hash;
+
+/// The source of a `move`, in its three forms: S; stashes with their places; S with its places and stashes with theirs.
+#[derive(Clone)]
+pub enum Source {
+    Image(Set),
+    Stashes(Vec<(Hash, Set)>),
+    Both(Set, Set, Vec<(Hash, Set)>),
+}
+
+/// A command line, or any bytes in its place.
+#[derive(Clone)]
+pub enum Command {
+    Zero(Set),
+    Erase(Set),
+    New(Set),
+    Move { hash: Hash, target: Set, n: u32, source: Source },
+    Stash { hash: Hash, source: Set },
+    Free { hash: Hash },
+    Raw(Vec<u8>),
+}
+
+fn set_text(out: &mut Vec<u8>, set: &Set) {
+    out.extend_from_slice((2 * set.len()).to_string().as_bytes());
+    for (start, end) in set {
+        out.extend_from_slice(format!(",{start},{end}").as_bytes());
+    }
+}
+
+fn parts_text(out: &mut Vec<u8>, parts: &[(Hash, Set)]) {
+    for (hash, set) in parts {
+        out.push(b' ');
+        out.extend_from_slice(hex(hash).as_bytes());
+        out.push(b':');
+        set_text(out, set);
+    }
+}
+
+impl Command {
+    /// Writes the line, with its LF.
+    pub fn text(&self, out: &mut Vec<u8>) {
+        match self {
+            Command::Zero(set) => {
+                out.extend_from_slice(b"zero ");
+                set_text(out, set);
+            }
+            Command::Erase(set) => {
+                out.extend_from_slice(b"erase ");
+                set_text(out, set);
+            }
+            Command::New(set) => {
+                out.extend_from_slice(b"new ");
+                set_text(out, set);
+            }
+            Command::Move { hash, target, n, source } => {
+                out.extend_from_slice(format!("move {} ", hex(hash)).as_bytes());
+                set_text(out, target);
+                out.extend_from_slice(format!(" {n} ").as_bytes());
+                match source {
+                    Source::Image(set) => set_text(out, set),
+                    Source::Stashes(parts) => {
+                        out.push(b'-');
+                        parts_text(out, parts);
+                    }
+                    Source::Both(set, places, parts) => {
+                        set_text(out, set);
+                        out.push(b' ');
+                        set_text(out, places);
+                        parts_text(out, parts);
+                    }
+                }
+            }
+            Command::Stash { hash, source } => {
+                out.extend_from_slice(format!("stash {} ", hex(hash)).as_bytes());
+                set_text(out, source);
+            }
+            Command::Free { hash } => out.extend_from_slice(format!("free {}", hex(hash)).as_bytes()),
+            Command::Raw(bytes) => out.extend_from_slice(bytes),
+        }
+        out.push(b'\n');
+    }
+
+    /// The range sets, those of R and S first; how many of them those are.
+    pub(super) fn sets(&mut self) -> (Vec<&mut Set>, usize) {
+        match self {
+            Command::Zero(set) | Command::Erase(set) | Command::New(set) | Command::Stash { source: set, .. } => (vec![set], 1),
+            Command::Move { target, source, .. } => match source {
+                Source::Image(set) => (vec![target, set], 2),
+                Source::Stashes(parts) => (std::iter::once(target).chain(parts.iter_mut().map(|p| &mut p.1)).collect(), 1),
+                Source::Both(set, places, parts) => ([target, set, places].into_iter().chain(parts.iter_mut().map(|p| &mut p.1)).collect(), 2),
+            },
+            Command::Free { .. } | Command::Raw(_) => (Vec::new(), 0),
+        }
+    }
+}

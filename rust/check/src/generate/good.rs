@@ -1,0 +1,200 @@
+//! Good lists.
+
+use super::command::{Command, Source};
+use super::sets::{any_set, blocks_of, place_set, Set};
+use super::{Blocks, Rng, Sizes, World};
+use reference::{Hash, MOST_STASHES};
+
+/// What a good list does, followed block by block while it is made.
+struct Follow {
+    image: Vec<u8>,
+    held: Vec<(Hash, Vec<u8>)>,
+    sizes: Sizes,
+}
+
+impl Follow {
+    fn blocks(&self) -> usize {
+        self.held.iter().map(|stash| stash.1.len()).sum()
+    }
+
+    fn write(&mut self, set: &Set, from: &[u8]) {
+        for (block, id) in blocks_of(set).zip(from) {
+            self.image[block] = *id;
+        }
+    }
+
+    fn read(&self, set: &Set) -> Vec<u8> {
+        blocks_of(set).map(|block| self.image[block]).collect()
+    }
+
+    /// How many blocks a command gets, within its room.
+    fn some(&self, rng: &mut Rng, room: usize) -> usize {
+        let Sizes { most, .. } = self.sizes;
+        let most = if most <= 4 || rng.one_in(30) { most } else { most / 64 };
+        rng.between(0, room.min(most))
+    }
+
+    /// Some of the held stashes, which together fit the work area; one may come twice.
+    fn some_held(&self, rng: &mut Rng, work: usize) -> Vec<usize> {
+        let mut chosen = Vec::new();
+        let mut blocks = 0;
+        for _ in 0..rng.between(1, 3) {
+            if self.held.is_empty() {
+                break;
+            }
+            let k = rng.below(self.held.len());
+            let size = self.held[k].1.len();
+            if blocks + size <= work && (!self.image.is_empty() || size == 0) {
+                chosen.push(k);
+                blocks += size;
+            }
+        }
+        chosen
+    }
+}
+
+impl World {
+    /// A list that opens, and on its data runs to its end.
+    pub fn good(rng: &mut Rng, blocks: &mut Blocks, sizes: &Sizes) -> World {
+        let letters = rng.pick(&[3, 6, 12, 200]);
+        let image: Vec<u8> = (0..sizes.image).map(|_| rng.between(0, letters) as u8).collect();
+        let mut world =
+            World { image: image.clone(), stash: sizes.area, work: sizes.area, header: [3, 0, 0, 0], commands: Vec::new(), data: Vec::new() };
+        if rng.percent(30) {
+            world.work = rng.between(0, sizes.area);
+        }
+        if rng.percent(30) {
+            world.stash = rng.between(0, sizes.area);
+        }
+        let mut follow = Follow { image, held: Vec::new(), sizes: *sizes };
+        let mut most = (0, 0);
+        let mut bytes = 40;
+        let stash_weight = rng.pick(&[1, 4, 8]);
+        for _ in 0..sizes.commands {
+            let command = match rng.below(8 + stash_weight) {
+                0 => Some(good_zero(rng, &mut follow)),
+                1 | 2 => Some(world.good_new(rng, letters, &mut follow)),
+                3 => good_free(rng, &mut follow),
+                4..=7 => Some(world.good_move(rng, blocks, &mut follow)),
+                _ => world.good_stash(rng, blocks, &mut follow),
+            };
+            if let Some(command) = command {
+                if sizes.bytes < usize::MAX {
+                    let mut text = Vec::new();
+                    command.text(&mut text);
+                    bytes += text.len();
+                }
+                world.commands.push(command);
+            }
+            most = (most.0.max(follow.held.len()), most.1.max(follow.blocks()));
+            if bytes > sizes.bytes {
+                break;
+            }
+        }
+        world.header = [3, world.data.len() as u64, most.0 as u64, most.1 as u64];
+        if rng.percent(30) {
+            world.header[2] = rng.pick(&[most.0 as u64 + 1, 64]).min(64);
+            world.header[3] = world.stash as u64;
+        }
+        world
+    }
+
+    fn good_new(&mut self, rng: &mut Rng, letters: usize, follow: &mut Follow) -> Command {
+        let bound = follow.image.len();
+        let k = if bound == 0 || rng.one_in(10) { 0 } else { 1 + follow.some(rng, 2.max(follow.sizes.most)) / 2 };
+        let set = any_set(rng, k, bound);
+        let from: Vec<u8> = (0..k).map(|_| rng.between(0, letters) as u8).collect();
+        follow.write(&set, &from);
+        self.data.extend_from_slice(&from);
+        Command::New(set)
+    }
+
+    fn good_stash(&self, rng: &mut Rng, blocks: &mut Blocks, follow: &mut Follow) -> Option<Command> {
+        let bound = follow.image.len();
+        let room = self.work.min(self.stash - follow.blocks());
+        let k = if bound == 0 || rng.one_in(12) { 0 } else { follow.some(rng, room) };
+        let source = any_set(rng, k, bound);
+        let ids = follow.read(&source);
+        let hash = blocks.digest(&ids);
+        if follow.held.len() == MOST_STASHES || follow.held.iter().any(|stash| stash.0 == hash) {
+            return None;
+        }
+        follow.held.push((hash, ids));
+        Some(Command::Stash { hash, source })
+    }
+
+    fn good_move(&self, rng: &mut Rng, blocks: &mut Blocks, follow: &mut Follow) -> Command {
+        let bound = follow.image.len();
+        let named = if rng.percent(65) { follow.some_held(rng, self.work) } else { Vec::new() };
+        let from_stash: usize = named.iter().map(|k| follow.held[*k].1.len()).sum();
+        let form = if named.is_empty() { 1 } else { rng.between(2, 3) };
+        let from_image = match form {
+            2 => 0,
+            _ if bound == 0 || rng.one_in(12) => 0,
+            _ => follow.some(rng, self.work - from_stash),
+        };
+        let n = from_image + from_stash;
+        let target = any_set(rng, n, bound);
+        let set = any_set(rng, from_image, bound);
+        let mut places = any_order(rng, n);
+        if form == 1 {
+            places.sort();
+        }
+
+        // The source put together, and who fills which of its places.
+        let mut whole = vec![0u8; n];
+        let mut fill = |places: &[usize], ids: &[u8]| places.iter().zip(ids).for_each(|(place, id)| whole[*place] = *id);
+        let (mine, mut rest) = places.split_at(from_image);
+        fill(mine, &follow.read(&set));
+        let first = place_set(rng, mine);
+        let mut parts = Vec::new();
+        for k in named {
+            let (hash, ids) = &follow.held[k];
+            let (mine, after) = rest.split_at(ids.len());
+            fill(mine, ids);
+            parts.push((*hash, place_set(rng, mine)));
+            rest = after;
+        }
+        let source = match form {
+            1 => Source::Image(set),
+            2 => Source::Stashes(parts),
+            _ => Source::Both(set, first, parts),
+        };
+        let hash = blocks.digest(&whole);
+        follow.write(&target, &whole);
+        Command::Move { hash, target, n: n as u32, source }
+    }
+}
+
+fn good_zero(rng: &mut Rng, follow: &mut Follow) -> Command {
+    let bound = follow.image.len();
+    let k = if bound == 0 { 0 } else { follow.some(rng, bound) };
+    let set = any_set(rng, k, bound);
+    follow.write(&set, &vec![0; k]);
+    if rng.percent(50) {
+        Command::Zero(set)
+    } else {
+        Command::Erase(set)
+    }
+}
+
+fn good_free(rng: &mut Rng, follow: &mut Follow) -> Option<Command> {
+    if follow.held.is_empty() {
+        return None;
+    }
+    let j = rng.below(follow.held.len());
+    let (hash, _) = follow.held.remove(j);
+    Some(Command::Free { hash })
+}
+
+/// The numbers below n: shuffled, turned, backwards or in order.
+fn any_order(rng: &mut Rng, n: usize) -> Vec<usize> {
+    let mut order: Vec<usize> = (0..n).collect();
+    match rng.below(4) {
+        0 => rng.shuffle(&mut order),
+        1 => order.rotate_left(rng.below(n)),
+        2 => order.reverse(),
+        _ => {}
+    }
+    order
+}

@@ -1,0 +1,165 @@
+//! States disturbed.
+
+use super::lines::line_starts;
+use super::Rng;
+use reference::{Hash, Refusal, State, BLOCK};
+
+/// Changes one thing in a state: at a border, at random, or so that it is another possible state.
+pub fn disturb(rng: &mut Rng, state: &mut State, list: &[u8]) {
+    let starts = line_starts(list);
+    match rng.below(23) {
+        0 => state.count = rng.pick(&[0, 1, 2, 63, 64, 65, 66, usize::MAX, state.count.wrapping_add(1), state.count.wrapping_sub(1)]),
+        1 => {
+            let near = rng.pick(&[state.at, list.len(), starts.get(4).copied().unwrap_or(0)]);
+            state.at = border(rng, near);
+        }
+        2 => {
+            state.at = rng.below(list.len() + 2);
+            if rng.percent(50) {
+                state.line = 1 + list[..state.at.min(list.len())].iter().filter(|c| **c == b'\n').count();
+            }
+        }
+        3 => state.line = border(rng, state.line),
+        4..=6 => {
+            // To another line, mostly with its number.
+            let k = rng.below(starts.len());
+            state.at = starts[k];
+            state.line = if rng.percent(85) { k + 1 } else { k };
+            if rng.percent(80) {
+                state.into = 0;
+            }
+        }
+        7 => state.into = border(rng, state.into),
+        8 | 9 => {
+            // Into some `new`.
+            let news: Vec<usize> = (0..starts.len()).filter(|k| list[starts[*k]..].starts_with(b"new ")).collect();
+            if !news.is_empty() {
+                let k = rng.pick(&news);
+                state.at = starts[k];
+                state.line = k + 1;
+            }
+            state.into = rng.pick(&[1, BLOCK - 1, BLOCK, BLOCK + 1, 2 * BLOCK - 1, 2 * BLOCK, 3 * BLOCK - 1, 3 * BLOCK, usize::MAX]);
+        }
+        10 => {
+            let k = rng.below(64.min(state.count.max(1)));
+            state.sizes[k] = rng.pick(&[0, 1, 2, 6, 4_096, 4_097, 1 << 52, 1 << 63, usize::MAX]);
+        }
+        11 => {
+            // Sizes whose sum passes 64 bits.
+            state.count = state.count.clamp(2, 64);
+            set_hash(state, 0, &[1; 20]);
+            state.sizes[0] = usize::MAX;
+            state.sizes[1] = rng.pick(&[1, 2, usize::MAX, 3]);
+        }
+        12 => {
+            let k = rng.below(1_280);
+            state.hashes[k] ^= 1 << rng.below(8);
+        }
+        13 => {
+            // One hash twice.
+            let (from, to) = (rng.below(3), rng.below(4));
+            let hash: Hash = std::array::from_fn(|k| state.hashes[20 * from + k]);
+            set_hash(state, to, &hash);
+            if rng.percent(70) {
+                state.count = state.count.clamp(from.max(to) + 1, 64);
+            }
+        }
+        14..=16 => {
+            // One stash more, often one that the text names.
+            if state.count < 64 {
+                let hash = named_hash(rng, list).unwrap_or([7; 20]);
+                let k = state.count;
+                set_hash(state, k, &hash);
+                state.sizes[k] = rng.below(3);
+                state.count += 1;
+            }
+        }
+        17 => {
+            let near = rng.pick(&[0, BLOCK, state.lengths.image]);
+            let value = border(rng, near);
+            match rng.below(4) {
+                0 => state.lengths.list = value,
+                1 => state.lengths.image = value,
+                2 => state.lengths.stash = value,
+                _ => state.lengths.work = value,
+            }
+        }
+        18 => {
+            let number = rng.pick(&[0, 1, 6, 15, 16, 17, 18, 99, usize::MAX]);
+            state.refusal = Refusal { number, line: rng.pick(&[0, 1, 5, 77, usize::MAX]) };
+        }
+        19 => {
+            // As many stashes as may be, of no blocks.
+            let count = rng.pick(&[64, 63, 65, 2, 3, 5]);
+            for k in 0..count.min(64) {
+                let mut hash = [0xe0; 20];
+                hash[19] = k as u8;
+                set_hash(state, k, &hash);
+                state.sizes[k] = 0;
+            }
+            state.count = count;
+        }
+        20 => {
+            // A size less or more, with its total still small.
+            let k = rng.below(state.count.clamp(1, 64));
+            state.sizes[k] = rng.below(4);
+        }
+        21 => everything(rng, state),
+        _ => state.refusal.line = rng.pick(&[1, 5, usize::MAX]),
+    }
+}
+
+fn everything(rng: &mut Rng, state: &mut State) {
+    for byte in state.hashes.iter_mut() {
+        *byte = rng.next_u64() as u8;
+    }
+    for size in state.sizes.iter_mut() {
+        *size = rng.next_u64() as usize >> rng.below(64);
+    }
+    state.count = border(rng, 64);
+    state.line = border(rng, state.line);
+    state.at = border(rng, state.at);
+    state.into = border(rng, state.into);
+    if rng.percent(20) {
+        state.refusal = Refusal { number: rng.next_u64() as usize, line: rng.next_u64() as usize };
+    }
+}
+
+/// A number at a border of its type, or beside this one, or any.
+fn border(rng: &mut Rng, near: usize) -> usize {
+    match rng.below(12) {
+        0 => 0,
+        1 => 1,
+        2 => usize::MAX,
+        3 => usize::MAX - rng.below(5_000),
+        4 => 1 << 63,
+        5 => 1 << rng.below(64),
+        6 => near.wrapping_sub(1),
+        7 => near.wrapping_add(1),
+        8 => near.wrapping_add(BLOCK),
+        9 => near,
+        10 => rng.next_u64() as usize,
+        _ => rng.below(10_000),
+    }
+}
+
+fn set_hash(state: &mut State, k: usize, hash: &Hash) {
+    state.hashes[20 * k..20 * k + 20].copy_from_slice(hash);
+}
+
+/// A hash that the text names, if it names any.
+fn named_hash(rng: &mut Rng, list: &[u8]) -> Option<Hash> {
+    let hex = |c: u8| matches!(c, b'0'..=b'9' | b'a'..=b'f');
+    let starts: Vec<usize> =
+        (0..list.len().saturating_sub(40)).filter(|k| (*k == 0 || !hex(list[*k - 1])) && list[*k..*k + 40].iter().all(|c| hex(*c))).collect();
+    if starts.is_empty() {
+        return None;
+    }
+    let at = rng.pick(&starts);
+    let mut hash = [0u8; 20];
+    for (byte, two) in hash.iter_mut().zip(list[at..at + 40].chunks(2)) {
+        let value = |c: u8| if c <= b'9' { c - b'0' } else { c - b'a' + 10 };
+        *byte = 16 * value(two[0]) + value(two[1]);
+    }
+    Some(hash)
+}

@@ -1,0 +1,44 @@
+//! A list with all that it needs.
+
+use super::command::Command;
+
+/// A list with the image it runs on, the new data it takes and the areas it needs. Blocks are named by their bytes' number.
+#[derive(Clone)]
+pub struct World {
+    pub image: Vec<u8>,
+    pub stash: usize,
+    pub work: usize,
+    pub header: [u64; 4],
+    pub commands: Vec<Command>,
+    pub data: Vec<u8>,
+}
+
+/// How large a world may be: blocks of the image and of an area, commands, blocks of one command, and bytes of the list.
+#[derive(Clone, Copy)]
+pub struct Sizes {
+    pub image: usize,
+    pub area: usize,
+    pub commands: usize,
+    pub most: usize,
+    pub bytes: usize,
+}
+
+impl Sizes {
+    pub fn small(image: usize, area: usize, commands: usize) -> Sizes {
+        Sizes { image, area, commands, most: 4, bytes: usize::MAX }
+    }
+}
+
+impl World {
+    /// The list's text.
+    pub fn list(&self) -> Vec<u8> {
+        let mut out = Vec::new();
+        for number in self.header {
+            out.extend_from_slice(format!("{number}\n").as_bytes());
+        }
+        for command in &self.commands {
+            command.text(&mut out);
+        }
+        out
+    }
+}

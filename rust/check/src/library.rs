@@ -1,0 +1,76 @@
+//! The proved library as an implementation. Each call converts its state to the library's form and back, so nothing is timed here.
+
+use crate::Implementation;
+use muongrabi::{Areas, Called, Fields, Stash};
+use reference::{Answer, Hash, Lengths, Outcome, Refusal, State, MOST_STASHES};
+use std::array::from_fn;
+
+/// The proved library.
+pub struct Library;
+
+impl Implementation for Library {
+    fn digest(&self, bytes: &[u8]) -> Hash {
+        muongrabi::digest(bytes)
+    }
+
+    fn open(&self, list: &[u8], image: usize, stash: usize, work: usize) -> State {
+        match muongrabi::open(list, muongrabi::Lengths { image, stash, work }) {
+            Ok(state) => state_of(&state),
+            Err(refused) => State { refusal: refusal_of(refused), ..State::ZERO },
+        }
+    }
+
+    fn call(&self, list: &[u8], image: &mut [u8], stash: &mut [u8], work: &mut [u8], piece: &[u8], state: State) -> Answer {
+        let mut state = library_state(&state);
+        let called = muongrabi::call(list, Areas { image, stash, work }, piece, &mut state);
+        answer_of(called, &state)
+    }
+
+    fn run(&self, list: &[u8], image: &mut [u8], stash: &mut [u8], work: &mut [u8], data: &[u8], cuts: &[usize]) -> Answer {
+        let (called, state) = muongrabi::run(list, Areas { image, stash, work }, data, cuts);
+        answer_of(called, &state)
+    }
+}
+
+/// Every field, those past the count too, since whole states are compared.
+fn library_state(state: &State) -> muongrabi::State {
+    let State { hashes, sizes, count, line, at, into, refusal, lengths } = *state;
+    muongrabi::State::from(&Fields {
+        stashes: from_fn(|k| Stash { hash: from_fn(|j| hashes[20 * k + j]), blocks: sizes[k] }),
+        count,
+        line,
+        at,
+        into,
+        refusal: muongrabi::Refusal::new(refusal.number, refusal.line),
+        list: lengths.list,
+        lengths: muongrabi::Lengths { image: lengths.image, stash: lengths.stash, work: lengths.work },
+    })
+}
+
+/// The other way.
+fn state_of(state: &muongrabi::State) -> State {
+    let Fields { stashes, count, line, at, into, refusal, list, lengths } = state.fields();
+    let mut hashes = [0; 20 * MOST_STASHES];
+    for (hash, stash) in hashes.chunks_exact_mut(20).zip(&stashes) {
+        hash.copy_from_slice(&stash.hash);
+    }
+    let lengths = Lengths { list, image: lengths.image, stash: lengths.stash, work: lengths.work };
+    State { hashes, sizes: stashes.map(|stash| stash.blocks), count, line, at, into, refusal: refusal_of(refusal), lengths }
+}
+
+fn refusal_of(refusal: muongrabi::Refusal) -> Refusal {
+    Refusal { number: refusal.number(), line: refusal.line() }
+}
+
+/// The library's outcome in the reference's type.
+pub fn outcome_of(outcome: muongrabi::Outcome) -> Outcome {
+    match outcome {
+        muongrabi::Outcome::Done => Outcome::Done,
+        muongrabi::Outcome::More => Outcome::More,
+        muongrabi::Outcome::Refused(refusal) => Outcome::Refused(refusal_of(refusal)),
+    }
+}
+
+fn answer_of(called: Called, state: &muongrabi::State) -> Answer {
+    Answer { state: state_of(state), outcome: outcome_of(called.outcome), taken: called.taken }
+}

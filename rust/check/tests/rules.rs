@@ -1,0 +1,201 @@
+//! Document 01's samples, and the borders of an opening.
+
+mod common;
+
+use check::hex;
+use common::*;
+use reference::Outcome::{Done, More};
+use reference::{Answer, Refusal, State, BLOCK};
+
+/// What an opening is refused with, the same on all.
+fn refusal(list: &str) -> (usize, usize) {
+    let mut got = Vec::new();
+    for on in all() {
+        let mut lent = Lent::new(list);
+        let state = lent.open(on);
+        if state.refusal.number != 0 {
+            assert_eq!(state, State { refusal: state.refusal, ..State::ZERO }, "{list}");
+            // A run ends with that state, as the implementation itself gives it.
+            let answer = on.run(&lent.list, &mut lent.image, &mut lent.stash, &mut lent.work, b"", &[]);
+            assert_eq!(answer, Answer { state, outcome: refused(state.refusal.number, state.refusal.line), taken: 0 }, "{list}");
+        }
+        got.push((state.refusal.number, state.refusal.line));
+    }
+    got.dedup();
+    assert_eq!(got.len(), 1, "{list}");
+    got[0]
+}
+
+#[test]
+fn digests() {
+    let million = vec![b'a'; 1_000_000];
+    let vectors: [(&[u8], &str); 5] = [
+        (b"", "da39a3ee5e6b4b0d3255bfef95601890afd80709"),
+        (b"abc", "a9993e364706816aba3e25717850c26c9cd0d89d"),
+        (b"abcdbcdecdefdefgefghfghighijhijkijkljklmklmnlmnomnopnopq", "84983e441c3bd26ebaae4aa1f95129e5e54670f1"),
+        (
+            b"abcdefghbcdefghicdefghijdefghijkefghijklfghijklmghijklmnhijklmnoijklmnopjklmnopqklmnopqrlmnopqrsmnopqrstnopqrstu",
+            "a49b2446a02c645bf419f995b67091253a04a259",
+        ),
+        (&million, "34aa973cd4c4daa4f61eeb2bdbad27316534016f"),
+    ];
+    for on in all() {
+        for (bytes, digest) in vectors {
+            assert_eq!(hex(&on.digest(bytes)), digest);
+        }
+    }
+}
+
+#[test]
+fn samples() {
+    // 1 to 3: what a set names.
+    assert_eq!(after("3\n0\n0\n0\nzero 2,3,5\n", b"").0, "ABC00FGH");
+    let list = format!("3\n0\n1\n3\nstash {} 4,6,7,1,3\n", name("GBC"));
+    assert_eq!(after(&list, b"").1, "GBC");
+    assert_eq!(refusal("3\n0\n0\n0\nzero 6,247114,247116,247150,247155,247156,247156\n"), (8, 5));
+    // 4: ill formed.
+    for set in ["2,5,3", "3,1,2,3", "0", "4,1,2", "2,01,2"] {
+        assert_eq!(refusal(&format!("3\n0\n0\n0\nzero {set}\n")), (6, 5), "{set}");
+    }
+    // 5 and 6.
+    assert_eq!(after("3\n0\n0\n0\nzero 2,7,8\n", b"").0, "ABCDEFG0");
+    assert_eq!(refusal("3\n0\n0\n0\nzero 2,7,9\n"), (8, 5));
+    assert_eq!(after("3\n0\n0\n0\nzero 2,8,8\n", b"").0, "ABCDEFGH");
+    assert_eq!(refusal("3\n0\n0\n0\nzero 2,9,9\n"), (8, 5));
+    // 7: a target over its own source.
+    let list = format!("3\n0\n0\n0\nmove {} 2,1,4 3 2,0,3\n", name("ABC"));
+    let (image, _, work, answer) = after(&list, b"");
+    assert_eq!((image.as_str(), work.as_str(), said(&answer)), ("AABCEFGH", "ABC", (Done, 0)));
+    // 8 and 9: an image part and a stash, spread.
+    let put = format!("3\n0\n1\n1\nstash {} 2,3,4\nmove {} 2,5,8 3 2,0,2 4,0,1,2,3 {}:2", name("D"), name("ADB"), name("D"));
+    assert_eq!(after(&format!("{put},1,2\n"), b"").0, "ABCDEADB");
+    assert_eq!(refusal(&format!("{put},0,1\n")), (12, 6));
+    // 10.
+    assert_eq!(after("3\n0\n0\n0\nzero 4,0,1,7,8\n", b"").0, "0BCDEFG0");
+    // 11 and 12: new data.
+    for on in all() {
+        let mut lent = Lent::new("3\n2\n0\n0\nnew 4,2,3,6,7\n");
+        let answer = lent.all(on, &[b'n'; 5_000]);
+        assert_eq!(said(&answer), (More, 5_000));
+        assert_eq!((answer.state.at, answer.state.line, answer.state.into), (8, 5, 5_000));
+        assert!(lent.image[2 * BLOCK..3 * BLOCK].iter().all(|b| *b == b'n'));
+        assert!(lent.image[6 * BLOCK..6 * BLOCK + 904].iter().all(|b| *b == b'n'));
+        assert!(lent.image[6 * BLOCK + 904..7 * BLOCK].iter().all(|b| *b == b'G'));
+    }
+    assert_eq!(after("3\n4\n0\n0\nnew 4,2,4,3,5\n", &blocks("pqrs")).0, "ABprsFGH");
+    // 13: what free leaves.
+    let list = format!("3\n0\n2\n3\nstash {x} 2,0,1\nstash {y} 2,1,3\nfree {x}\n", x = name("A"), y = name("BC"));
+    let (_, stash, _, answer) = after(&list, b"");
+    assert_eq!((stash.as_str(), answer.state.count, answer.state.sizes[0]), ("BCC", 1, 2));
+    // 14 and 15.
+    assert_eq!(said(&after("3\n0\n0\n0\n", b"abc").3), (Done, 0));
+    assert_eq!(refusal("3\n2\n0\n0\nnew 2,0,3\n"), (15, 2));
+}
+
+#[test]
+fn header_lines() {
+    for (list, want) in [
+        ("", (3, 1)),
+        ("\n", (3, 1)),
+        ("1\n0\n", (3, 3)),
+        ("3\n0\n0\n0", (3, 4)),
+        ("3 \n0\n0\n0\n", (3, 1)),
+        ("3\r\n0\n0\n0\n", (3, 1)),
+        ("03\n0\n0\n0\n", (3, 1)),
+        ("+3\n0\n0\n0\n", (3, 1)),
+        ("3\n4294967296\n0\n0\n", (3, 2)),
+        ("3\n4294967295\n0\n0\n", (15, 2)),
+        ("3\nbsdiff\n0\n0\n", (3, 2)),
+        ("1\n0\n65\n4\n", (4, 1)),
+        ("3\n0\n65\n4\n", (5, 3)),
+        ("3\n0\n64\n4\n", (5, 4)),
+        ("3\n0\n64\n3\n", (0, 0)),
+        ("4294967295\n0\n0\n0\n", (4, 1)),
+    ] {
+        assert_eq!(refusal(list), want, "{list:?}");
+    }
+}
+
+#[test]
+fn command_lines() {
+    let h = "da39a3ee5e6b4b0d3255bfef95601890afd80709";
+    let cases: Vec<(String, usize)> = vec![
+        ("\n".into(), 6),
+        (" \n".into(), 6),
+        ("bsdiff".into(), 7),
+        ("imgdiff".into(), 7),
+        ("bsdiff\n".into(), 7),
+        ("imgdiff anything".into(), 7),
+        ("bsdiff\t1\n".into(), 6),
+        ("bsdiffx 1\n".into(), 6),
+        ("zero 2,0,0".into(), 6),
+        ("zero  2,0,0\n".into(), 6),
+        ("zero 2,0,0 \n".into(), 6),
+        ("ZERO 2,0,0\n".into(), 6),
+        ("zero\n".into(), 6),
+        ("zero 2,0,4294967296\n".into(), 6),
+        ("zero 2,0,4294967295\n".into(), 8),
+        (format!("free {h}\n"), 10),
+        (format!("free {h} \n"), 6),
+        (format!("free {}\n", h.to_uppercase()), 6),
+        (format!("free {}\n", &h[1..]), 6),
+        (format!("free {h}0\n"), 6),
+        (format!("move {h} 2,0,0 0 2,0,0\n"), 0),
+        (format!("move {h} 2,0,0 0 -\n"), 6),
+        (format!("move {h} 2,0,0 0 - \n"), 6),
+        (format!("move {h} 2,0,0 0 2,0,0 2,0,0\n"), 6),
+        (format!("move {h} 2,0,0 0 - {h}:2,0,0\n"), 10),
+        (format!("move {h} 2,0,0 0 2,9,9\n"), 8),
+        (format!("move {h} 2,0,4 4 2,0,9\n"), 8),
+        (format!("move {h} 2,0,4 4 2,0,4\n"), 9),
+        (format!("move {h} 2,0,1 1 2,0,4\n"), 9),
+        (format!("move {h} 2,0,2 1 2,0,1\n"), 11),
+        (format!("move {h} 2,0,1 1 2,0,2\n"), 11),
+        (format!("stash {h} 2,0,4\n"), 9),
+        (format!("stash {h} 2,0,3\n"), 14),
+        (format!("stash {h} 2,0,2\nstash {h} 2,0,3\n"), 13),
+        (format!("stash {h} 2,0,0\nfree {h}\nfree {h}\n"), 10),
+        (format!("stash {h} 2,0,0\nfree {h}\nstash {h} 2,0,1\n"), 0),
+        (format!("stash {h} 2,0,1\nmove {h} 2,0,2 2 - {h}:2,0,1 {h}:2,1,2\n"), 0),
+        (format!("stash {h} 2,0,1\nmove {h} 2,0,2 2 - {h}:2,0,1 {h}:2,0,1\n"), 12),
+        (format!("stash {h} 2,0,1\nmove {h} 2,0,2 2 - {h}:2,0,2\n"), 11),
+        (format!("stash {h} 2,0,1\nmove {h} 2,0,1 1 - {h}:2,1,2\n"), 12),
+        (format!("stash {h} 2,0,1\nmove {h} 2,0,1 1 - {h}:4,0,1,4294967295,4294967295\n"), 0),
+        (format!("stash {h} 2,0,1\nmove {h} 2,0,1 1 - {h}:2,0,4294967295\n"), 11),
+        (format!("stash {h} 2,0,1\nmove {h} 2,0,1 1 - {h}:2,0,2 {}:2,0,1\n", h.replace('d', "e")), 10),
+        (format!("stash {h} 2,0,1\nmove {h} 2,0,2 2 2,0,1 2,0,2 {h}:2,1,2\n"), 11),
+        (format!("stash {h} 2,0,1\nmove {h} 2,0,2 2 2,0,1 2,0,1 {h}:2,1,2\n"), 0),
+    ];
+    for (text, want) in cases {
+        let lines = text.matches('\n').count() + !text.ends_with('\n') as usize;
+        let line = if want == 0 { 0 } else { 4 + lines };
+        assert_eq!(refusal(&format!("3\n0\n1\n2\n{text}")), (want, line), "{text:?}");
+    }
+}
+
+#[test]
+fn area_lengths() {
+    let list = b"3\n0\n0\n0\n";
+    let whole = 4_096 * 4_096;
+    for on in all() {
+        for (image, stash, work, want) in [
+            (0, 0, 0, 0),
+            (1, 0, 0, 1),
+            (0, BLOCK - 1, 0, 1),
+            (0, 0, BLOCK + 1, 1),
+            (256 * whole, whole, whole, 0),
+            (256 * whole + BLOCK, whole, whole, 1),
+            (0, whole + BLOCK, 0, 1),
+            (0, 0, whole + BLOCK, 1),
+            (usize::MAX, 0, 0, 1),
+            (usize::MAX - BLOCK + 1, 0, 0, 1),
+        ] {
+            assert_eq!(on.open(list, image, stash, work).refusal, Refusal { number: want, line: 0 });
+        }
+        let mut long = vec![b'x'; 4_194_305];
+        assert_eq!(on.open(&long, 0, 0, 0).refusal, Refusal { number: 2, line: 0 });
+        assert_eq!(on.open(&long, 1, 0, 0).refusal, Refusal { number: 1, line: 0 });
+        long.pop();
+        assert_eq!(on.open(&long, 0, 0, 0).refusal, Refusal { number: 3, line: 1 });
+    }
+}

@@ -1,0 +1,265 @@
+//! The borders of a run: pieces, hashes, states, lists altered since opening.
+
+mod common;
+
+use check::hex;
+use common::*;
+use reference::Outcome::{Done, More};
+use reference::{digest, Lengths, Refusal, State, BLOCK};
+
+#[test]
+fn pieces_of_any_length() {
+    let data = blocks("pq");
+    let list = format!("3\n2\n0\n0\nnew 4,6,7,0,1\nmove {} 2,1,2 1 2,6,7\n", name("p"));
+    for on in all() {
+        for cuts in [vec![], vec![0], vec![1; 20], vec![4_095, 1, 1, 4_095], vec![4_096, 4_096, 0, 0], vec![8_192, 7], vec![0, 8_191, 0, 1, 0]] {
+            let mut lent = Lent::new(&list);
+            let answer = on.run(&lent.list, &mut lent.image, &mut lent.stash, &mut lent.work, &data, &cuts);
+            assert_eq!(said(&answer), (Done, 8_192));
+            assert_eq!(letters(&lent.image), "qpCDEFpH");
+            assert_eq!((answer.state.into, answer.state.at, answer.state.line), (0, list.len(), 7));
+        }
+        // The line after the last byte runs in that same call.
+        let mut lent = Lent::new(&list);
+        let state = lent.open(on);
+        let first = lent.call(on, &data[..8_191], state);
+        assert_eq!(said(&first), (More, 8_191));
+        assert_eq!(letters(&lent.work), "uvw");
+        let second = lent.call(on, &[b'q', 9, 9], first.state);
+        assert_eq!(said(&second), (Done, 1));
+        let third = lent.call(on, &data, second.state);
+        assert_eq!((said(&third), third.state), ((Done, 0), second.state));
+    }
+}
+
+#[test]
+fn a_hash_that_differs() {
+    let list = format!("3\n1\n1\n1\nnew 2,0,1\nstash {} 2,2,3\nzero 2,7,8\n", name("D"));
+    let (image, stash, work, answer) = after(&list, &blocks("n"));
+    assert_eq!((image.as_str(), stash.as_str(), work.as_str()), ("nBCDEFGH", "xyz", "Cvw"));
+    assert_eq!(said(&answer), (refused(16, 6), 4_096));
+    assert_eq!((answer.state.line, answer.state.count, answer.state.refusal), (6, 0, Refusal { number: 16, line: 6 }));
+    for on in all() {
+        let mut lent = Lent::new(&list);
+        let mut state = answer.state;
+        assert_eq!(said(&lent.call(on, b"x", state)), (refused(16, 6), 0));
+        // Whatever it holds is repeated, before anything is looked at.
+        for (number, line) in [(17, 3), (99, usize::MAX), (usize::MAX, 0)] {
+            state.refusal = Refusal { number, line };
+            state.at = usize::MAX;
+            let again = lent.call(on, b"x", state);
+            assert_eq!((said(&again), again.state), ((refused(number, line), 0), state));
+        }
+    }
+}
+
+#[test]
+fn impossible_states() {
+    let list = "3\n2\n3\n2\nnew 2,0,2\nzero 2,0,1\n";
+    let edit = |f: &dyn Fn(&mut State)| {
+        let mut got = Vec::new();
+        for on in all() {
+            let mut lent = Lent::new(list);
+            let mut state = lent.open(on);
+            f(&mut state);
+            let answer = lent.call(on, b"", state);
+            if answer.outcome.number() == 17 {
+                assert_eq!((said(&answer), answer.state), ((refused(17, 0), 0), state));
+                assert_eq!((letters(&lent.image), letters(&lent.stash), letters(&lent.work)), ("ABCDEFGH".into(), "xyz".into(), "uvw".into()));
+            }
+            got.push(answer);
+        }
+        got.dedup();
+        assert_eq!(got.len(), 1);
+        got[0].outcome.number()
+    };
+    let hash = |s: &mut State, k: usize, v: u8| s.hashes[20 * k..20 * k + 20].fill(v);
+    assert_eq!(edit(&|_| {}), 0);
+    assert_eq!(edit(&|s| s.line = 4), 17);
+    assert_eq!(edit(&|s| s.at = 7), 17);
+    assert_eq!(edit(&|s| (s.at, s.line) = (6, 4)), 17);
+    assert_eq!(edit(&|s| s.at = usize::MAX), 17);
+    assert_eq!(edit(&|s| (s.at, s.line) = (18, 6)), 0);
+    assert_eq!(edit(&|s| (s.at, s.line) = (29, 7)), 0);
+    assert_eq!(edit(&|s| (s.at, s.line, s.into) = (29, 7, 1)), 17);
+    assert_eq!(edit(&|s| (s.at, s.line, s.into) = (18, 6, 1)), 17);
+    assert_eq!(edit(&|s| (s.at, s.line) = (30, 8)), 17);
+    assert_eq!(edit(&|s| s.into = 8_191), 0);
+    assert_eq!(edit(&|s| s.into = 8_192), 17);
+    assert_eq!(edit(&|s| s.into = usize::MAX), 17);
+    assert_eq!(edit(&|s| s.count = 1), 0);
+    assert_eq!(edit(&|s| s.count = 2), 17);
+    assert_eq!(edit(&|s| s.count = 65), 17);
+    assert_eq!(edit(&|s| s.count = usize::MAX), 17);
+    assert_eq!(edit(&|s| (s.count, s.sizes[0]) = (1, 2)), 0);
+    assert_eq!(edit(&|s| (s.count, s.sizes[0]) = (1, 3)), 17);
+    assert_eq!(edit(&|s| s.sizes[0] = usize::MAX), 0);
+    assert_eq!(
+        edit(&|s| {
+            hash(s, 0, 1);
+            (s.count, s.sizes[0], s.sizes[1]) = (2, usize::MAX, 2);
+        }),
+        17
+    );
+    // More stashes than line 3, up to 64, are possible.
+    assert_eq!(
+        edit(&|s| {
+            (0..64).for_each(|k| hash(s, k, k as u8));
+            s.count = 64;
+        }),
+        0
+    );
+    assert_eq!(edit(&|s| s.lengths.list += 1), 17);
+    assert_eq!(edit(&|s| s.lengths.image += BLOCK), 17);
+    assert_eq!(edit(&|s| s.lengths.stash = 0), 17);
+    assert_eq!(edit(&|s| s.lengths.work = 1), 17);
+    assert_eq!(edit(&|s| *s = State::ZERO), 17);
+    assert_eq!(edit(&|s| s.refusal.line = 9), 0);
+}
+
+#[test]
+fn a_list_altered_after_opening() {
+    let good = "3\n0\n1\n1\nzero 2,0,1\nzero 2,1,2\n";
+    for (line, want) in [("zero 2,1,9", 8), ("zero 2,2,1", 6), ("bsdiff 1,2", 7), ("Zero 2,1,2", 6)] {
+        for on in all() {
+            let mut lent = Lent::new(good);
+            let state = lent.open(on);
+            lent.list = good.replace("zero 2,1,2", line).into_bytes();
+            let answer = lent.call(on, b"", state);
+            assert_eq!(said(&answer), (refused(want, 6), 0));
+            assert_eq!(letters(&lent.image), "0BCDEFGH");
+            assert_eq!((answer.state.at, answer.state.line, answer.state.refusal), (19, 6, Refusal { number: want, line: 6 }));
+        }
+    }
+    // Into a `new` that is no longer one: 17, and not kept.
+    for on in all() {
+        let mut lent = Lent::new("3\n1\n0\n0\nnew 2,0,1\n");
+        let first = lent.all(on, b"abc");
+        lent.list = b"3\n1\n0\n0\nbsdiff 1,\n".to_vec();
+        let second = lent.call(on, b"abc", first.state);
+        assert_eq!((said(&second), second.state), ((refused(17, 0), 0), first.state));
+        lent.list = b"3\n1\n0\n0\nnew 2,0,1\n".to_vec();
+        assert_eq!(said(&lent.call(on, b"", first.state)), (More, 0));
+    }
+}
+
+#[test]
+fn sixty_four_stashes() {
+    // 64 one-block stashes of different bytes; the 65th is refused, freed room serves again.
+    let image: Vec<u8> = (0..70u8).flat_map(|k| [k; BLOCK]).collect();
+    let named: Vec<String> = (0..70).map(|k| hex(&digest(&image[k * BLOCK..][..BLOCK]))).collect();
+    let mut list = "3\n0\n64\n64\n".to_string();
+    for (k, name) in named.iter().enumerate().take(64) {
+        list += &format!("stash {name} 2,{k},{}\n", k + 1);
+    }
+    for on in all() {
+        let mut lent = Lent {
+            list: format!("{list}stash {} 2,64,65\n", named[64]).into_bytes(),
+            image: image.clone(),
+            stash: vec![9; 64 * BLOCK],
+            work: vec![8; BLOCK],
+        };
+        assert_eq!(lent.open(on).refusal, Refusal { number: 14, line: 69 });
+        let swap = format!("{list}free {}\nstash {} 2,64,65\nmove {} 2,0,1 1 - {}:2,0,1\n", named[0], named[64], named[63], named[63]);
+        lent.list = swap.into_bytes();
+        let answer = lent.all(on, b"");
+        assert_eq!(said(&answer), (Done, 0));
+        assert_eq!(answer.state.count, 64);
+        assert!(lent.stash.chunks(BLOCK).enumerate().all(|(k, block)| block[0] == k as u8 + 1));
+        assert_eq!(lent.image[0], 63);
+    }
+}
+
+#[test]
+fn sources_of_several_stashes() {
+    let (a, bc, d) = (name("A"), name("BC"), name("D"));
+    // Each list first holds A, then B C, then D: the later two are not at the front.
+    let held = format!("stash {a} 2,0,1\nstash {bc} 2,1,3\n");
+    for (area, lines, image, work) in [
+        // Form two with one stash that is not at the front, its blocks in the other order.
+        (3, format!("move {} 2,5,7 2 - {bc}:4,1,2,0,1\n", name("CB")), "ABCDECBH", "CBD"),
+        // Form two with two, the younger first, their places mixed.
+        (3, format!("move {} 2,4,7 3 - {bc}:4,2,3,0,1 {a}:2,1,2\n", name("CAB")), "ABCDCABH", "CAB"),
+        // One stash twice.
+        (3, format!("move {} 2,4,6 2 - {a}:2,1,2 {a}:2,0,1\n", name("AA")), "ABCDAAGH", "AAD"),
+        // Form three with two, the image's block between them.
+        (4, format!("stash {d} 2,3,4\nmove {} 2,5,8 3 2,7,8 2,1,2 {d}:2,0,1 {a}:2,2,3\n", name("DHA")), "ABCDEDHA", "DHA"),
+        // After the oldest is freed, what was behind it is at the front.
+        (4, format!("stash {d} 2,3,4\nfree {a}\nmove {} 2,0,3 3 - {d}:2,0,1 {bc}:2,1,3\n", name("DBC")), "DBCDEFGH", "DBC"),
+    ] {
+        for on in all() {
+            let mut lent = Lent::new(&format!("3\n0\n3\n{area}\n{held}{lines}"));
+            lent.stash = blocks(&"xyzt"[..area]);
+            lent.work = blocks("BCD");
+            let answer = lent.all(on, b"");
+            assert_eq!(said(&answer), (Done, 0), "{lines}");
+            assert_eq!((letters(&lent.image).as_str(), letters(&lent.work).as_str()), (image, work), "{lines}");
+        }
+    }
+}
+
+#[test]
+fn a_header_altered_after_opening() {
+    let good = format!("3\n1\n2\n2\nstash {} 2,0,1\nnew 2,0,1\n", name("A"));
+    let other = |from: &str, to: &str| good.replacen(from, to, 1);
+    // The header, and whether a call now gives 17. Line 2 is not looked at again, nor a line 3 below what is held.
+    for (list, want) in [
+        (good.clone(), 0),
+        (other("3\n", "4\n"), 17),
+        (other("3\n", "x\n"), 17),
+        (other("3\n1", "3\n9"), 0),
+        (other("3\n1", "3\n+"), 17),
+        (other("1\n2\n2", "1\n0\n2"), 0),
+        (other("1\n2\n2", "1\n \n2"), 17),
+        (other("1\n2\n2", "1\n65\n2"), 17),
+        (other("1\n2\n2", "1\n64\n2"), 0),
+        (other("2\n2\n", "2\n3\n"), 0),
+        (other("2\n2\n", "2\n4\n"), 17),
+        (other("2\n2\n", "2\n1\n"), 0),
+        (other("2\n2\n", "2\n0\n"), 17),
+        (other("2\n2\n", "2\n2 "), 17),
+    ] {
+        for on in all() {
+            let mut lent = Lent::new(&good);
+            let first = lent.all(on, b"nn");
+            assert_eq!(said(&first), (More, 2));
+            let (image, stash, work) = (lent.image.clone(), lent.stash.clone(), lent.work.clone());
+            let mut state = first.state;
+            state.at = state.at + list.len() - good.len();
+            state.lengths.list = list.len();
+            lent.list = list.clone().into_bytes();
+            let second = lent.call(on, b"", state);
+            assert_eq!(second.outcome.number(), want, "{list:?}");
+            if want == 17 {
+                assert_eq!((said(&second), second.state), ((refused(17, 0), 0), state));
+                assert!(lent.image == image && lent.stash == stash && lent.work == work);
+                // It is not kept: over the list that was opened the run goes on.
+                lent.list = good.clone().into_bytes();
+                assert_eq!(said(&lent.call(on, b"n", first.state)), (More, 1));
+            }
+        }
+    }
+}
+
+#[test]
+fn areas_and_a_list_that_no_longer_fit() {
+    // The lengths are those that the state holds, and they alone would now be refused: 1, then 2.
+    for on in all() {
+        let list = b"3\n0\n0\n0\nzero 2,0,0\n";
+        let state = on.open(list, BLOCK, BLOCK, BLOCK);
+        for (image, stash, work) in [(BLOCK + 1, BLOCK, BLOCK), (BLOCK, BLOCK - 1, BLOCK), (BLOCK, BLOCK, 4_097 * BLOCK)] {
+            let mut other = state;
+            (other.lengths.image, other.lengths.stash, other.lengths.work) = (image, stash, work);
+            let answer = on.call(list, &mut vec![1; image], &mut vec![2; stash], &mut vec![3; work], b"", other);
+            assert_eq!((said(&answer), answer.state), ((refused(17, 0), 0), other));
+        }
+        let mut long = list.to_vec();
+        long.resize(4_194_304, b'\n');
+        for want in [6, 17] {
+            let other = State { lengths: Lengths { list: long.len(), ..state.lengths }, ..state };
+            let answer = on.call(&long, &mut [1; BLOCK], &mut [2; BLOCK], &mut [3; BLOCK], b"", other);
+            assert_eq!(answer.outcome.number(), want);
+            long.push(b'\n');
+        }
+    }
+}

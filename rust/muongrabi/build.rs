@@ -1,0 +1,59 @@
+//! Finds the archive of the proved library: in the folder MUONGRABI_LIB_DIR, else in target/staticlib of the repository.
+
+use std::env::var;
+use std::path::{Path, PathBuf};
+
+const ARCHIVE: &str = "libmuongrabi.a";
+
+/// Only an archive with the structs of `src/exports.rs` has a function of this name.
+const ABI: &str = "muongrabi_abi_1";
+
+fn main() {
+    println!("cargo::rerun-if-changed=build.rs");
+    println!("cargo::rerun-if-env-changed=MUONGRABI_LIB_DIR");
+    let (arch, os) = (var("CARGO_CFG_TARGET_ARCH"), var("CARGO_CFG_TARGET_OS"));
+    if arch.as_deref() != Ok("x86_64") || os.as_deref() != Ok("linux") {
+        stop(&format!("{ARCHIVE} is for x86-64 Linux; this build is for {}.", var("TARGET").unwrap_or_else(|_| "another machine".into())));
+    }
+    let repository = Path::new(env!("CARGO_MANIFEST_DIR")).join("../..");
+    let repository = repository.canonicalize().unwrap_or(repository);
+    let named = var("MUONGRABI_LIB_DIR").ok().filter(|folder| !folder.is_empty()).map(PathBuf::from);
+    let folder = named.clone().unwrap_or_else(|| repository.join("target/staticlib"));
+    // Cargo runs a build script in the package's folder, so a relative name would not be the caller's.
+    if folder.is_relative() {
+        stop(&format!("MUONGRABI_LIB_DIR={} is a relative name; give the whole one.", folder.display()));
+    }
+    let archive = folder.join(ARCHIVE);
+    if !archive.is_file() {
+        let found = match named {
+            Some(_) => "MUONGRABI_LIB_DIR names",
+            None => "MUONGRABI_LIB_DIR is not set, and this is where it would be built:",
+        };
+        stop(&format!(
+            "the proved library is not there: no {ARCHIVE} in {folder}\n\
+             ({found} that folder).\n\
+             Build it, which also proves it (some minutes; it needs the Rattle toolchain):\n\
+             \n\
+             \x20   cd {repository} && ./build library\n\
+             \n\
+             or name the folder that has it:\n\
+             \n\
+             \x20   MUONGRABI_LIB_DIR=/folder/of/the/archive cargo build",
+            folder = folder.display(),
+            repository = repository.display(),
+        ));
+    }
+    let bytes = std::fs::read(&archive).unwrap_or_else(|error| stop(&format!("{}: {error}", archive.display())));
+    if !bytes.windows(ABI.len() + 1).any(|name| name.strip_suffix(b"\0") == Some(ABI.as_bytes())) {
+        stop(&format!("{} was built for another version of this crate: it has no {ABI}.\nBuild it again.", archive.display()));
+    }
+    println!("cargo::rerun-if-changed={}", archive.display());
+    println!("cargo::rustc-link-search=native={}", folder.display());
+    println!("cargo::rustc-link-lib=static=muongrabi");
+}
+
+/// Ends the build with these words, which cargo shows.
+fn stop(words: &str) -> ! {
+    eprintln!("muongrabi: {words}");
+    std::process::exit(1)
+}

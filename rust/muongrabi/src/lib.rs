@@ -1,0 +1,164 @@
+//! A block updater: it opens an Android transfer list of version 3 and runs it over a lent image while the new data arrives in pieces of
+//! any size. After a dropped connection it goes on from the state it left, and a source that does not have its hash stops the run before
+//! a byte of the target is written.
+//!
+//! This crate is the safe face of a library that is proved: any bytes as list, data or state get an answer; a list opens exactly when it
+//! meets the rules, and then does what they say, in order; and however the new data is cut into pieces, what stands after the last call is
+//! what the rules give for the pieces joined. The crate allocates nothing, opens no file and keeps nothing: everything it works on is lent
+//! to it, and what must be remembered between calls is the [`State`].
+//!
+//! ```
+//! use muongrabi::{Areas, Outcome, Updater, BLOCK};
+//!
+//! // Two blocks of new data, then a block of zeros.
+//! let list = b"3\n2\n0\n0\nnew 4,0,1,3,4\nzero 2,1,2\n";
+//! let mut image = vec![b'-'; 4 * BLOCK];
+//!
+//! let areas = Areas { image: &mut image, stash: &mut [], work: &mut [] };
+//! let mut updater = Updater::open(list, areas)?;
+//! assert_eq!(updater.write(&[b'n'; 5_000]), Outcome::More);
+//! // However long the signal is gone, the updater waits where it stood.
+//! assert_eq!(updater.write(&[b'n'; 3_192]), Outcome::Done);
+//! assert_eq!(updater.taken(), 8_192);
+//!
+//! let firsts: Vec<u8> = image.chunks(BLOCK).map(|block| block[0]).collect();
+//! assert_eq!(firsts, [b'n', 0, b'-', b'n']);
+//! # Ok::<(), muongrabi::Refusal>(())
+//! ```
+//!
+//! A refusal says what is wrong, and where:
+//!
+//! ```
+//! use muongrabi::{open, Lengths, Refusal, BLOCK};
+//!
+//! let lengths = Lengths { image: 8 * BLOCK, stash: 0, work: 0 };
+//! let refusal = open(b"3\n0\n0\n0\nzero 2,7,9\n", lengths).unwrap_err();
+//! assert_eq!(refusal.number(), Refusal::PAST_IMAGE);
+//! assert_eq!(refusal.to_string(), "line 5: a range of the target or source ends past the image (refusal 8)");
+//! ```
+//!
+//! It runs on x86-64 Linux, where `libmuongrabi.a` is built (`./build library` in the repository); the build script finds the archive, or
+//! says what to do. With the feature `std`, [`Updater`] is a `std::io::Write`.
+
+#![no_std]
+#![warn(missing_docs)]
+
+#[cfg(feature = "std")]
+extern crate std;
+
+mod areas;
+mod exports;
+mod limits;
+mod outcome;
+mod refusal;
+mod state;
+mod updater;
+
+pub use areas::{Areas, Lengths};
+pub use limits::{BLOCK, MOST_AREA, MOST_IMAGE, MOST_LIST, MOST_STASHES};
+pub use outcome::{Called, Outcome};
+pub use refusal::Refusal;
+pub use state::{Fields, Stash, State};
+pub use updater::Updater;
+
+/// The SHA-1 digest of the bytes, as lists name sources.
+///
+/// ```
+/// let digest = muongrabi::digest(b"abc");
+/// assert_eq!(digest[..4], [0xa9, 0x99, 0x3e, 0x36]);
+/// ```
+pub fn digest(bytes: &[u8]) -> [u8; 20] {
+    let mut out = [0; 20];
+    // SAFETY: the bytes are lent to be read, and 20 bytes to be written.
+    unsafe { exports::muongrabi_digest(bytes.as_ptr(), bytes.len(), out.as_mut_ptr()) };
+    out
+}
+
+/// Checks the whole list for areas of these lengths, and gives the state of its first command line. No block is looked at.
+///
+/// ```
+/// use muongrabi::{open, Lengths};
+///
+/// let lengths = Lengths { image: 4_096, stash: 0, work: 0 };
+/// assert_eq!(open(b"3\n1\n0\n0\nnew 2,0,1\n", lengths)?.line(), 5);
+/// assert_eq!(open(b"2\n1\n0\n0\nnew 2,0,1\n", lengths).unwrap_err().line(), 1);
+/// # Ok::<(), muongrabi::Refusal>(())
+/// ```
+pub fn open(list: &[u8], lengths: Lengths) -> Result<State, Refusal> {
+    // SAFETY: only the list is read.
+    let raw = unsafe { exports::muongrabi_open(list.as_ptr(), list.len(), lengths.image, lengths.stash, lengths.work) };
+    let state = State { raw };
+    match state.refusal() {
+        None => Ok(state),
+        Some(refusal) => Err(refusal),
+    }
+}
+
+/// Runs the list from where the state stands until it needs a byte that the piece does not have, the list is finished, or a line is
+/// refused. The state is then that of the next call.
+///
+/// A refusal other than 17 is held in the state, and every later call repeats it. With 17 (the state does not fit the list and the areas)
+/// the state stays as it was, and nothing is taken or changed. A refused line changes nothing itself, except the work area where its hash
+/// differs (16). Nothing is taken on trust from the opening: each line is checked again before it runs.
+///
+/// [`Updater`] keeps list, areas and state together; this is for callers who keep them themselves.
+///
+/// ```
+/// use muongrabi::{call, open, Areas, Called, Outcome};
+///
+/// let list = b"3\n1\n0\n0\nnew 2,0,1\n";
+/// let mut image = [0; 4_096];
+/// let mut areas = Areas { image: &mut image, stash: &mut [], work: &mut [] };
+/// let mut state = open(list, areas.lengths())?;
+/// let first = call(list, areas.reborrow(), &[7; 4_000], &mut state);
+/// assert_eq!(first, Called { outcome: Outcome::More, taken: 4_000 });
+/// let second = call(list, areas.reborrow(), &[7; 4_000], &mut state);
+/// assert_eq!(second, Called { outcome: Outcome::Done, taken: 96 });
+/// # Ok::<(), muongrabi::Refusal>(())
+/// ```
+#[rustfmt::skip]
+pub fn call(list: &[u8], areas: Areas<'_>, piece: &[u8], state: &mut State) -> Called {
+    let Areas { image, stash, work } = areas;
+    // SAFETY: five slices, each with its own length. The three that are written are borrowed for writing, so none overlaps another.
+    let answer = unsafe {
+        exports::muongrabi_call(
+            list.as_ptr(), list.len(),
+            image.as_mut_ptr(), image.len(),
+            stash.as_mut_ptr(), stash.len(),
+            work.as_mut_ptr(), work.len(),
+            piece.as_ptr(), piece.len(),
+            state.raw,
+        )
+    };
+    state.raw = answer.state;
+    Called::of(&answer)
+}
+
+/// Opens the list, then calls with pieces of the data, whose lengths are `cuts`, cut short where the data ends, and once more with all
+/// that is left. What is called is the last call's outcome and the sum of bytes taken, with the state after it. A refused opening is
+/// `Refused`, takes nothing and changes nothing; its state holds the refusal and nothing else.
+///
+/// ```
+/// use muongrabi::{run, Areas, Outcome};
+///
+/// let mut image = [0; 8_192];
+/// let areas = Areas { image: &mut image, stash: &mut [], work: &mut [] };
+/// let (called, _) = run(b"3\n2\n0\n0\nnew 2,0,2\n", areas, &[1; 8_192], &[10, 0, 5_000]);
+/// assert_eq!((called.outcome, called.taken), (Outcome::Done, 8_192));
+/// ```
+#[rustfmt::skip]
+pub fn run(list: &[u8], areas: Areas<'_>, data: &[u8], cuts: &[usize]) -> (Called, State) {
+    let Areas { image, stash, work } = areas;
+    // SAFETY: as in `call`.
+    let answer = unsafe {
+        exports::muongrabi_run(
+            list.as_ptr(), list.len(),
+            image.as_mut_ptr(), image.len(),
+            stash.as_mut_ptr(), stash.len(),
+            work.as_mut_ptr(), work.len(),
+            data.as_ptr(), data.len(),
+            cuts.as_ptr(), cuts.len(),
+        )
+    };
+    (Called::of(&answer), State { raw: answer.state })
+}

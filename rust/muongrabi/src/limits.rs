@@ -1,0 +1,16 @@
+//! The limits of the rules.
+
+/// Bytes of a block.
+pub const BLOCK: usize = 4_096;
+
+/// Blocks of the largest image.
+pub const MOST_IMAGE: usize = 1_048_576;
+
+/// Blocks of the largest stash area, and of the largest work area.
+pub const MOST_AREA: usize = 4_096;
+
+/// Bytes of the longest list.
+pub const MOST_LIST: usize = 4_194_304;
+
+/// Stashes held at once.
+pub const MOST_STASHES: usize = 64;

@@ -1,0 +1,48 @@
+//! What a call comes to.
+
+use crate::exports::{self, Answer};
+use crate::Refusal;
+use core::fmt;
+
+/// How a call ended.
+#[must_use = "whether the run is finished, wants more or is refused is said here"]
+#[derive(Clone, Copy, PartialEq, Eq, Hash, Debug)]
+pub enum Outcome {
+    /// The list is finished.
+    Done,
+    /// Every byte of the piece is taken, and the next byte of new data is needed.
+    More,
+    /// A line was refused, or the call itself.
+    Refused(Refusal),
+}
+
+impl fmt::Display for Outcome {
+    fn fmt(&self, to: &mut fmt::Formatter<'_>) -> fmt::Result {
+        match self {
+            Outcome::Done => write!(to, "done"),
+            Outcome::More => write!(to, "more new data is needed"),
+            Outcome::Refused(refusal) => write!(to, "refused: {refusal}"),
+        }
+    }
+}
+
+/// What a call gives back beside the state.
+#[must_use = "whether the run is finished, wants more or is refused is said here"]
+#[derive(Clone, Copy, PartialEq, Eq, Hash, Debug)]
+pub struct Called {
+    /// How it ended.
+    pub outcome: Outcome,
+    /// Bytes of the piece that were taken.
+    pub taken: usize,
+}
+
+impl Called {
+    pub(crate) fn of(answer: &Answer) -> Called {
+        let outcome = match answer.outcome {
+            exports::DONE => Outcome::Done,
+            exports::MORE => Outcome::More,
+            _ => Outcome::Refused(Refusal::new(answer.number, answer.line)),
+        };
+        Called { outcome, taken: answer.taken }
+    }
+}

@@ -1,0 +1,103 @@
+//! Refusals, in numbers and in words.
+
+use core::fmt;
+
+/// Why a list, a line or a call is refused, and at which line of the list.
+///
+/// Its `Display` is for people: `line 6: the source does not have the hash that the list gives (refusal 16)`.
+#[derive(Clone, Copy, PartialEq, Eq, Hash, Debug)]
+pub struct Refusal {
+    number: usize,
+    line: usize,
+}
+
+/// Each number under its name.
+impl Refusal {
+    /// An area is not whole blocks, or is over its limit.
+    pub const AREA_SIZE: usize = 1;
+    /// The list is too long.
+    pub const LIST_LENGTH: usize = 2;
+    /// A header line is absent, ill formed or without LF.
+    pub const HEADER_FORM: usize = 3;
+    /// The version is not 3.
+    pub const OTHER_VERSION: usize = 4;
+    /// Line 3 is over the limit of stashes; else line 4 is over the stash area.
+    pub const HEADER_LIMIT: usize = 5;
+    /// A command line is ill formed, or its word is unknown.
+    pub const LINE_FORM: usize = 6;
+    /// The line's first word is `bsdiff` or `imgdiff`.
+    pub const UNSUPPORTED: usize = 7;
+    /// A range of target or image source ends past the image.
+    pub const PAST_IMAGE: usize = 8;
+    /// N, or an image source, is larger than the work area.
+    pub const PAST_WORK: usize = 9;
+    /// A stash named in `move` or `free` is not held.
+    pub const NOT_HELD: usize = 10;
+    /// The sizes of target, source and places do not agree.
+    pub const SIZES_DIFFER: usize = 11;
+    /// A place is at N or above, or taken twice.
+    pub const MISPLACED: usize = 12;
+    /// The hash to be stashed is held already.
+    pub const HELD_ALREADY: usize = 13;
+    /// Holding the stash would pass line 3 or line 4.
+    pub const NO_ROOM: usize = 14;
+    /// All `new` targets together differ from line 2.
+    pub const TOTAL_DIFFERS: usize = 15;
+    /// In a run: a source's SHA-1 is not the one in the list.
+    pub const HASH_DIFFERS: usize = 16;
+    /// In a call: the state is impossible, or the length of the list or of an area changed.
+    pub const STATE_IMPOSSIBLE: usize = 17;
+}
+
+impl Refusal {
+    /// A refusal with any number and line, as a state may hold it. Number 0 is none.
+    pub const fn new(number: usize, line: usize) -> Refusal {
+        Refusal { number, line }
+    }
+
+    /// The refusal's number; the constants name them.
+    pub const fn number(&self) -> usize {
+        self.number
+    }
+
+    /// The line of the list, counted from 1; 0 where the refusal is of no line.
+    pub const fn line(&self) -> usize {
+        self.line
+    }
+
+    /// What the number means, in words. The header's `muongrabi_refusal_text` says the same.
+    pub const fn text(&self) -> &'static str {
+        match self.number {
+            0 => "nothing is refused",
+            Refusal::AREA_SIZE => "the image, stash or work area is not whole blocks of 4096 bytes, or is over its limit",
+            Refusal::LIST_LENGTH => "the list is longer than 4194304 bytes",
+            Refusal::HEADER_FORM => "a header line is missing, is not a plain number or does not end in a line feed",
+            Refusal::OTHER_VERSION => "the list's version is not 3",
+            Refusal::HEADER_LIMIT => "the list asks for more than 64 stashes, or for more blocks than the stash area has",
+            Refusal::LINE_FORM => "the line is not a command: its word is unknown, or its form is wrong",
+            Refusal::UNSUPPORTED => "the commands bsdiff and imgdiff are not supported",
+            Refusal::PAST_IMAGE => "a range of the target or source ends past the image",
+            Refusal::PAST_WORK => "the source is larger than the work area",
+            Refusal::NOT_HELD => "the line names a stash that is not held",
+            Refusal::SIZES_DIFFER => "the sizes of target, source and places do not agree",
+            Refusal::MISPLACED => "a place lies past the end of the source, or is taken twice",
+            Refusal::HELD_ALREADY => "a stash of this hash is held already",
+            Refusal::NO_ROOM => "the stash would pass the number of stashes (line 3) or of blocks (line 4)",
+            Refusal::TOTAL_DIFFERS => "the blocks that all lines of new data write are not as many as line 2 says",
+            Refusal::HASH_DIFFERS => "the source does not have the hash that the list gives",
+            Refusal::STATE_IMPOSSIBLE => "the state does not fit the list and the areas of this call",
+            _ => "a number that no rule gives",
+        }
+    }
+}
+
+impl fmt::Display for Refusal {
+    fn fmt(&self, to: &mut fmt::Formatter<'_>) -> fmt::Result {
+        if self.line != 0 {
+            write!(to, "line {}: ", self.line)?;
+        }
+        write!(to, "{} (refusal {})", self.text(), self.number)
+    }
+}
+
+impl core::error::Error for Refusal {}

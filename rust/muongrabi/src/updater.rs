@@ -1,0 +1,123 @@
+//! A run with all that belongs to it.
+
+use crate::{call, open, Areas, Called, Outcome, Refusal, State};
+use core::fmt;
+
+/// A run of one list: list, areas and state together, so that no call can be made with another's.
+///
+/// New data goes in by [`write`](Updater::write), a piece of any length at a time.
+pub struct Updater<'a> {
+    list: &'a [u8],
+    areas: Areas<'a>,
+    state: State,
+    taken: u64,
+}
+
+impl<'a> Updater<'a> {
+    /// Opens the list over these areas. Where it is refused nothing is changed.
+    pub fn open(list: &'a [u8], areas: Areas<'a>) -> Result<Updater<'a>, Refusal> {
+        let state = open(list, areas.lengths())?;
+        Ok(Updater::resume(list, areas, state))
+    }
+
+    /// Goes on where an earlier run stood: with its list, its areas as it left them, and its state. What does not fit is refused by the
+    /// first write (17).
+    pub fn resume(list: &'a [u8], areas: Areas<'a>, state: State) -> Updater<'a> {
+        Updater { list, areas, state, taken: 0 }
+    }
+
+    /// Runs the list with the next piece of new data. An empty piece runs what needs no data, and says how the run stands.
+    ///
+    /// Bytes past the end of the list are not taken. A refusal stays: every later write repeats it.
+    ///
+    /// ```
+    /// use muongrabi::{digest, Areas, Outcome, Refusal, Updater, BLOCK};
+    ///
+    /// // Moves block 0 to block 1, if its hash is the one of a block of `a`.
+    /// let hash: String = digest(&[b'a'; BLOCK]).iter().map(|byte| format!("{byte:02x}")).collect();
+    /// let list = format!("3\n0\n0\n0\nmove {hash} 2,1,2 1 2,0,1\n");
+    /// for (block, expected) in [(b'a', Outcome::Done), (b'b', Outcome::Refused(Refusal::new(Refusal::HASH_DIFFERS, 5)))] {
+    ///     let mut image = vec![0; 2 * BLOCK];
+    ///     image[..BLOCK].fill(block);
+    ///     let areas = Areas { image: &mut image, stash: &mut [], work: &mut [0; BLOCK] };
+    ///     assert_eq!(Updater::open(list.as_bytes(), areas)?.write(&[]), expected);
+    ///     assert_eq!(image[BLOCK], if expected == Outcome::Done { b'a' } else { 0 });
+    /// }
+    /// # Ok::<(), muongrabi::Refusal>(())
+    /// ```
+    pub fn write(&mut self, piece: &[u8]) -> Outcome {
+        self.call(piece).outcome
+    }
+
+    fn call(&mut self, piece: &[u8]) -> Called {
+        let called = call(self.list, self.areas.reborrow(), piece, &mut self.state);
+        self.taken += called.taken as u64;
+        called
+    }
+
+    /// Bytes of new data taken by all writes to this updater.
+    pub fn taken(&self) -> u64 {
+        self.taken
+    }
+
+    /// The image as it stands.
+    pub fn image(&self) -> &[u8] {
+        self.areas.image
+    }
+
+    /// Where the run stands.
+    pub fn state(&self) -> &State {
+        &self.state
+    }
+
+    /// The state alone, to go on from later by [`resume`](Updater::resume).
+    pub fn into_state(self) -> State {
+        self.state
+    }
+}
+
+impl fmt::Debug for Updater<'_> {
+    fn fmt(&self, to: &mut fmt::Formatter<'_>) -> fmt::Result {
+        to.debug_struct("Updater").field("areas", &self.areas).field("state", &self.state).field("taken", &self.taken).finish_non_exhaustive()
+    }
+}
+
+/// New data by `std::io`, so that a file or a connection can be copied in.
+///
+/// Once the list is finished it takes no byte: `write` gives 0, and `write_all` and `io::copy` fail with `WriteZero` if there is data left.
+/// `flush` runs what needs no data, so it is wanted after the last byte too. A refusal is an error of kind `InvalidData`, whose inner error
+/// is the [`Refusal`]; where a write took bytes before its line was refused, it gives their number, and the next write or flush is the error.
+///
+/// ```
+/// use muongrabi::{Areas, Outcome, Updater};
+/// use std::io::Write;
+///
+/// let mut image = [0; 4_096];
+/// let areas = Areas { image: &mut image, stash: &mut [], work: &mut [] };
+/// let mut updater = Updater::open(b"3\n1\n0\n0\nnew 2,0,1\n", areas).unwrap();
+/// std::io::copy(&mut &[9; 4_096][..], &mut updater)?;
+/// updater.flush()?;
+/// assert_eq!(updater.write(&[]), Outcome::Done);
+/// # Ok::<(), std::io::Error>(())
+/// ```
+#[cfg(feature = "std")]
+impl std::io::Write for Updater<'_> {
+    fn write(&mut self, piece: &[u8]) -> std::io::Result<usize> {
+        match self.call(piece) {
+            Called { outcome: Outcome::Refused(refusal), taken: 0 } => Err(error(refusal)),
+            Called { taken, .. } => Ok(taken),
+        }
+    }
+
+    fn flush(&mut self) -> std::io::Result<()> {
+        match self.call(&[]).outcome {
+            Outcome::Refused(refusal) => Err(error(refusal)),
+            Outcome::Done | Outcome::More => Ok(()),
+        }
+    }
+}
+
+#[cfg(feature = "std")]
+fn error(refusal: Refusal) -> std::io::Error {
+    std::io::Error::new(std::io::ErrorKind::InvalidData, refusal)
+}

@@ -1,0 +1,156 @@
+//! The proved source, the C header and this crate declare the same things: functions, structs, limits, refusals in numbers and in words.
+//! No compiler sees more than one of them at a time, so their texts are compared.
+
+use muongrabi::{Refusal, BLOCK, MOST_AREA, MOST_IMAGE, MOST_LIST, MOST_STASHES};
+
+const HEADER: &str = include_str!("../../../include/muongrabi.h");
+const EXPORTS: &str = include_str!("../src/exports.rs");
+const BUILD: &str = include_str!("../build.rs");
+const LIBRARY: &str = include_str!("../../../crates/muongrabi/src/lib.rt");
+const STATE: &str = include_str!("../../../crates/state/src/lib.rt");
+const LIMITS: &str = include_str!("../../../crates/state/src/limits.rt");
+const REFUSALS: &str = include_str!("../../../crates/state/src/refusals.rt");
+
+/// What stands between the first `from` and the next `to`.
+fn between<'a>(text: &'a str, from: &str, to: &str) -> &'a str {
+    let (_, after) = text.split_once(from).unwrap_or_else(|| panic!("no {from:?}"));
+    after.split_once(to).unwrap_or_else(|| panic!("no {to:?} after {from:?}")).0
+}
+
+/// What follows `#define NAME`, up to its comment.
+fn defined(name: &str) -> &'static str {
+    between(HEADER, &format!("#define {name} "), "\n").split("/*").next().unwrap_or_default().trim()
+}
+
+/// The number of each `pub const` of a proved source.
+fn constants(source: &str) -> Vec<(&str, usize)> {
+    let consts = source.lines().filter_map(|line| line.strip_prefix("pub const ")?.strip_suffix(';')?.split_once(": usize = "));
+    consts.filter_map(|(name, number)| Some((name, number.parse().ok()?))).collect()
+}
+
+#[test]
+fn version() {
+    assert_eq!(defined("MUONGRABI_VERSION"), format!("\"{}\"", env!("CARGO_PKG_VERSION")));
+}
+
+#[test]
+fn abi() {
+    let number = defined("MUONGRABI_ABI");
+    assert_eq!(between(LIBRARY, "const ABI: usize = ", ";"), number);
+    let name = format!("muongrabi_abi_{number}");
+    for (text, declared) in [(HEADER, format!("\nsize_t {name}(void);")), (LIBRARY, format!("fn {name}()")), (BUILD, format!("\"{name}\""))] {
+        assert!(text.contains(&declared), "{declared}");
+    }
+}
+
+#[test]
+fn limits() {
+    let proved = constants(LIMITS);
+    for (source, header, limit) in [
+        ("BLOCK_BYTES", "MUONGRABI_BLOCK", BLOCK),
+        ("MOST_IMAGE_BLOCKS", "MUONGRABI_MOST_IMAGE", MOST_IMAGE),
+        ("MOST_AREA_BLOCKS", "MUONGRABI_MOST_AREA", MOST_AREA),
+        ("MOST_LIST_BYTES", "MUONGRABI_MOST_LIST", MOST_LIST),
+        ("MOST_STASHES", "MUONGRABI_MOST_STASHES", MOST_STASHES),
+    ] {
+        assert!(proved.contains(&(source, limit)), "{source}");
+        assert_eq!(defined(header), format!("{limit}u"), "{header}");
+    }
+}
+
+#[test]
+fn refusal_numbers() {
+    let numbers = [
+        ("AREA_SIZE", Refusal::AREA_SIZE),
+        ("LIST_LENGTH", Refusal::LIST_LENGTH),
+        ("HEADER_FORM", Refusal::HEADER_FORM),
+        ("OTHER_VERSION", Refusal::OTHER_VERSION),
+        ("HEADER_LIMIT", Refusal::HEADER_LIMIT),
+        ("LINE_FORM", Refusal::LINE_FORM),
+        ("UNSUPPORTED", Refusal::UNSUPPORTED),
+        ("PAST_IMAGE", Refusal::PAST_IMAGE),
+        ("PAST_WORK", Refusal::PAST_WORK),
+        ("NOT_HELD", Refusal::NOT_HELD),
+        ("SIZES_DIFFER", Refusal::SIZES_DIFFER),
+        ("MISPLACED", Refusal::MISPLACED),
+        ("HELD_ALREADY", Refusal::HELD_ALREADY),
+        ("NO_ROOM", Refusal::NO_ROOM),
+        ("TOTAL_DIFFERS", Refusal::TOTAL_DIFFERS),
+        ("HASH_DIFFERS", Refusal::HASH_DIFFERS),
+        ("STATE_IMPOSSIBLE", Refusal::STATE_IMPOSSIBLE),
+    ];
+    let of_header: Vec<(&str, usize)> = HEADER
+        .lines()
+        .filter_map(|line| line.trim().strip_prefix("MUONGRABI_REFUSAL_")?.split_once(" = "))
+        .map(|(name, rest)| (name, rest.split([',', ' ']).next().and_then(|digits| digits.parse().ok()).expect("a number")))
+        .collect();
+    assert_eq!(of_header, numbers);
+    assert_eq!(constants(REFUSALS), numbers);
+}
+
+#[test]
+fn refusal_texts() {
+    let table = between(HEADER, "texts[] = {\n", "    };\n");
+    let texts: Vec<&str> =
+        table.lines().map(|line| line.trim().strip_prefix('"').and_then(|rest| rest.strip_suffix("\",")).expect("a text")).collect();
+    let ours: Vec<&str> = (0..=Refusal::STATE_IMPOSSIBLE).map(|number| Refusal::new(number, 0).text()).collect();
+    assert_eq!(texts, ours);
+    assert_eq!(between(HEADER, "texts[number] : \"", "\";"), Refusal::new(usize::MAX, 0).text());
+}
+
+#[test]
+fn words() {
+    assert_eq!(Refusal::new(Refusal::LIST_LENGTH, 0).to_string(), "the list is longer than 4194304 bytes (refusal 2)");
+    assert_eq!(Refusal::new(Refusal::OTHER_VERSION, 1).to_string(), "line 1: the list's version is not 3 (refusal 4)");
+    assert_eq!(Refusal::new(99, 7).to_string(), "line 7: a number that no rule gives (refusal 99)");
+}
+
+/// The fields of a struct of Rust, or of the proved source, in their order.
+fn fields<'a>(source: &'a str, name: &str) -> Vec<&'a str> {
+    let body = between(source, &format!("pub struct {name} {{\n"), "\n}");
+    body.lines().map(|line| between(line, "pub ", ":")).collect()
+}
+
+#[test]
+fn structs() {
+    for (name, source) in [("Refusal", STATE), ("Lengths", STATE), ("State", STATE), ("Answer", LIBRARY)] {
+        let body = between(HEADER, &format!("typedef struct muongrabi_{} {{\n", name.to_lowercase()), "\n}");
+        let of_header: Vec<&str> = body
+            .lines()
+            .map(|line| line.split(';').next().and_then(|field| field.split('[').next()?.split(' ').next_back()).expect("a field"))
+            .collect();
+        assert_eq!(fields(EXPORTS, name), of_header, "{name}");
+        assert_eq!(fields(source, name), of_header, "{name}");
+    }
+}
+
+/// What crosses for one parameter: a pointer, a number or a struct. A slice is a pointer and a number.
+fn crosses(kind: &str) -> &'static str {
+    match kind.trim() {
+        "&[u8]" | "&mut [u8]" | "&[usize]" => "pointer number ",
+        "&mut [u8; 20]" | "*const u8" | "*mut u8" | "*const usize" => "pointer ",
+        "usize" | "size_t" => "number ",
+        "State" | "muongrabi_state" => "state ",
+        other => panic!("what is {other:?}?"),
+    }
+}
+
+#[test]
+fn functions() {
+    for (gives, name) in [("void", "digest"), ("muongrabi_state", "open"), ("muongrabi_answer", "call"), ("muongrabi_answer", "run")] {
+        let of_rust = |source: &str| -> String {
+            let parameters = between(source, &format!("fn muongrabi_{name}("), ")").split(',').filter(|one| !one.trim().is_empty());
+            parameters.map(|one| crosses(one.split_once(':').expect("a parameter").1)).collect()
+        };
+        let parameters = between(HEADER, &format!("\n{gives} muongrabi_{name}("), ");");
+        let of_header: String = parameters
+            .split(',')
+            .map(|one| match one.contains(['*', '[']) {
+                true => "pointer ",
+                false => crosses(one.trim().split(' ').next().expect("a type")),
+            })
+            .collect();
+        assert_eq!(of_rust(EXPORTS), of_header, "{name}");
+        assert_eq!(of_rust(LIBRARY), of_header, "{name}");
+    }
+}

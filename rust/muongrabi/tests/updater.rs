@@ -1,0 +1,209 @@
+//! What this crate adds to the library: areas lent by name, states in the open, an updater that keeps them together.
+
+use muongrabi::{call, digest, open, run, Areas, Called, Fields, Lengths, Outcome, Refusal, State, Updater, BLOCK};
+
+/// Blocks, each filled with its letter.
+fn blocks(letters: &str) -> Vec<u8> {
+    letters.bytes().flat_map(|letter| [letter; BLOCK]).collect()
+}
+
+/// The first byte of each block, all of whose bytes are alike.
+fn letters(bytes: &[u8]) -> String {
+    assert!(bytes.chunks(BLOCK).all(|block| block.iter().all(|byte| *byte == block[0])));
+    bytes.chunks(BLOCK).map(|block| if block[0] == 0 { '0' } else { block[0] as char }).collect()
+}
+
+fn name(letters: &str) -> String {
+    digest(&blocks(letters)).iter().map(|byte| format!("{byte:02x}")).collect()
+}
+
+/// A stash, new data, a move over its own source, and what was stashed put back elsewhere.
+fn list() -> String {
+    let (a, bcd) = (name("A"), name("BCD"));
+    format!("3\n2\n1\n1\nstash {a} 2,0,1\nnew 4,0,1,7,8\nmove {bcd} 2,2,5 3 2,1,4\nmove {a} 2,6,7 1 - {a}:2,0,1\nfree {a}\nzero 2,1,2\n")
+}
+
+const AFTER: &str = "p0BCDFAq";
+
+struct Lent {
+    image: Vec<u8>,
+    stash: Vec<u8>,
+    work: Vec<u8>,
+}
+
+impl Lent {
+    fn new() -> Lent {
+        Lent { image: blocks("ABCDEFGH"), stash: blocks("x"), work: blocks("uvw") }
+    }
+
+    fn areas(&mut self) -> Areas<'_> {
+        Areas { image: &mut self.image, stash: &mut self.stash, work: &mut self.work }
+    }
+
+    fn letters(&self) -> [String; 3] {
+        [&self.image, &self.stash, &self.work].map(|area| letters(area))
+    }
+}
+
+#[test]
+fn each_area_is_lent_as_itself() {
+    let (list, mut lent) = (list(), Lent::new());
+    let mut updater = Updater::open(list.as_bytes(), lent.areas()).expect("a good list");
+    assert_eq!(updater.write(&blocks("pqr")), Outcome::Done);
+    assert_eq!((updater.taken(), updater.state().line(), updater.state().at()), (2 * BLOCK as u64, 11, list.len()));
+    assert_eq!(letters(updater.image()), AFTER);
+    assert_eq!(lent.letters(), [AFTER, "A", "ACD"]);
+}
+
+#[test]
+fn a_run_ends_alike_however_it_is_made() {
+    let list = list();
+    let data = blocks("pq");
+    for size in [1_000, 4_095, 4_096, 4_097, 9_000] {
+        let mut lent = Lent::new();
+        let mut updater = Updater::open(list.as_bytes(), lent.areas()).expect("a good list");
+        let mut outcome = updater.write(&[]);
+        for piece in data.chunks(size) {
+            assert_eq!(outcome, Outcome::More);
+            outcome = updater.write(piece);
+        }
+        assert_eq!(outcome, Outcome::Done);
+        let state = updater.into_state();
+
+        let mut other = Lent::new();
+        let cuts = vec![size; data.len() / size];
+        let (called, other_state) = run(list.as_bytes(), other.areas(), &data, &cuts);
+        assert_eq!((called, other_state), (Called { outcome: Outcome::Done, taken: data.len() }, state));
+        assert_eq!(other.letters(), lent.letters());
+    }
+}
+
+#[test]
+fn a_run_goes_on_from_kept_fields() {
+    let (list, mut lent) = (list(), Lent::new());
+    let mut updater = Updater::open(list.as_bytes(), lent.areas()).expect("a good list");
+    assert_eq!(updater.write(&blocks("pq")[..5_000]), Outcome::More);
+    let kept: Fields = updater.into_state().fields();
+    assert_eq!((kept.count, kept.stashes[0].hash, kept.stashes[0].blocks), (1, digest(&blocks("A")), 1));
+    assert_eq!((kept.line, kept.into, kept.list), (6, 5_000, list.len()));
+    assert_eq!(kept.lengths, Lengths { image: 8 * BLOCK, stash: BLOCK, work: 3 * BLOCK });
+
+    let state = State::from(&kept);
+    assert_eq!(state.fields(), kept);
+    let mut updater = Updater::resume(list.as_bytes(), lent.areas(), state);
+    assert_eq!(updater.write(&blocks("pq")[5_000..]), Outcome::Done);
+    assert_eq!((updater.taken(), lent.letters()[0].as_str()), (3_192, AFTER));
+}
+
+#[test]
+fn every_field_crosses_as_itself() {
+    let mut fields = open(b"3\n0\n0\n0\n", Lengths { image: 0, stash: 0, work: 0 }).expect("a good list").fields();
+    for (k, stash) in fields.stashes.iter_mut().enumerate() {
+        stash.hash = [k as u8; 20];
+        stash.blocks = 1_000 + k;
+    }
+    (fields.count, fields.line, fields.at, fields.into) = (1, 2, 3, 4);
+    (fields.refusal, fields.list) = (Refusal::new(0, 6), 7);
+    fields.lengths = Lengths { image: 8, stash: 9, work: 10 };
+    let mut state = State::from(&fields);
+    assert_eq!(state.refusal(), None);
+    // It fits nothing, and comes back as it was.
+    let mut lent = Lent::new();
+    let refused = Called { outcome: Outcome::Refused(Refusal::new(Refusal::STATE_IMPOSSIBLE, 0)), taken: 0 };
+    assert_eq!(call(b"3\n0\n0\n0\n", lent.areas(), b"piece", &mut state), refused);
+    assert_eq!(state.fields(), fields);
+    assert_eq!(lent.letters(), ["ABCDEFGH", "x", "uvw"]);
+    // A refusal that is held is repeated.
+    fields.refusal = Refusal::new(99, 6);
+    let mut state = State::from(&fields);
+    assert_eq!(state.refusal(), Some(Refusal::new(99, 6)));
+    assert_eq!(call(b"", lent.areas(), b"", &mut state).outcome, Outcome::Refused(Refusal::new(99, 6)));
+}
+
+#[test]
+fn refusals_stop_a_run_and_stay() {
+    let list = format!("3\n1\n0\n0\nnew 2,0,1\nmove {} 2,1,2 1 2,2,3\n", name("A"));
+    let mut lent = Lent::new();
+    let refused = Outcome::Refused(Refusal::new(Refusal::HASH_DIFFERS, 6));
+    let mut updater = Updater::open(list.as_bytes(), lent.areas()).expect("a good list");
+    assert_eq!(updater.write(&blocks("pq")), refused);
+    assert_eq!(updater.taken(), BLOCK as u64);
+    assert_eq!(updater.write(&blocks("pq")), refused);
+    assert_eq!((updater.taken(), updater.state().refusal()), (BLOCK as u64, Some(Refusal::new(16, 6))));
+    assert_eq!(lent.letters(), ["pBCDEFGH", "x", "Cvw"]);
+    // A refused opening changes nothing.
+    let mut lent = Lent::new();
+    let opened = Updater::open(b"3\n1\n0\n0\nnew 2,0,1\nzero 2,0,9\n", lent.areas()).map(|_| ());
+    assert_eq!(opened, Err(Refusal::new(Refusal::PAST_IMAGE, 6)));
+    let (called, state) = run(b"3\n1\n0\n0\nnew 2,0,1\nzero 2,0,9\n", lent.areas(), &blocks("p"), &[]);
+    assert_eq!(called, Called { outcome: Outcome::Refused(Refusal::new(8, 6)), taken: 0 });
+    assert_eq!((state.refusal(), state.line(), state.fields().list), (Some(Refusal::new(8, 6)), 0, 0));
+    assert_eq!(lent.letters(), ["ABCDEFGH", "x", "uvw"]);
+}
+
+#[test]
+fn areas_of_other_lengths_are_refused() {
+    let list = b"3\n1\n0\n0\nnew 2,0,1\n";
+    let mut lent = Lent::new();
+    let state = open(list, lent.areas().lengths()).expect("a good list");
+    lent.work.truncate(BLOCK);
+    let mut updater = Updater::resume(list, lent.areas(), state.clone());
+    assert_eq!(updater.write(&blocks("p")), Outcome::Refused(Refusal::new(17, 0)));
+    // 17 is not kept.
+    assert_eq!(updater.into_state(), state);
+}
+
+#[test]
+fn outcomes_in_words() {
+    assert_eq!(Outcome::Done.to_string(), "done");
+    assert_eq!(Outcome::More.to_string(), "more new data is needed");
+    assert_eq!(Outcome::Refused(Refusal::new(4, 1)).to_string(), "refused: line 1: the list's version is not 3 (refusal 4)");
+}
+
+#[cfg(feature = "std")]
+mod io {
+    use super::*;
+    use std::io::{copy, ErrorKind, Write};
+
+    #[test]
+    fn data_is_copied_in() {
+        let (list, mut lent) = (list(), Lent::new());
+        let mut updater = Updater::open(list.as_bytes(), lent.areas()).expect("a good list");
+        assert_eq!(copy(&mut &blocks("pq")[..], &mut updater).expect("all is taken"), 2 * BLOCK as u64);
+        assert_eq!(updater.write(&[]), Outcome::Done);
+        assert_eq!(lent.letters()[0], AFTER);
+    }
+
+    #[test]
+    fn data_past_the_end_is_an_error() {
+        let (list, mut lent) = (list(), Lent::new());
+        let mut updater = Updater::open(list.as_bytes(), lent.areas()).expect("a good list");
+        let error = updater.write_all(&blocks("pqr")).expect_err("a block too many");
+        assert_eq!((error.kind(), updater.taken()), (ErrorKind::WriteZero, 2 * BLOCK as u64));
+        assert_eq!(lent.letters()[0], AFTER);
+    }
+
+    #[test]
+    fn flush_runs_what_needs_no_data() {
+        let mut lent = Lent::new();
+        let mut updater = Updater::open(b"3\n0\n0\n0\nzero 2,0,8\n", lent.areas()).expect("a good list");
+        copy(&mut std::io::empty(), &mut updater).expect("nothing to take");
+        updater.flush().expect("nothing to refuse");
+        assert_eq!(lent.letters()[0], "00000000");
+    }
+
+    #[test]
+    fn a_refusal_is_an_error_after_the_bytes_before_it() {
+        let list = format!("3\n1\n0\n0\nnew 2,0,1\nmove {} 2,1,2 1 2,2,3\n", name("A"));
+        let mut lent = Lent::new();
+        let mut updater = Updater::open(list.as_bytes(), lent.areas()).expect("a good list");
+        assert_eq!(Write::write(&mut updater, &blocks("pq")).expect("the new is taken"), BLOCK);
+        let refusal = Refusal::new(Refusal::HASH_DIFFERS, 6);
+        for error in [Write::write(&mut updater, &blocks("q")).map(|_| ()), updater.flush()] {
+            let error = error.expect_err("the line is refused");
+            assert_eq!((error.kind(), error.to_string()), (ErrorKind::InvalidData, refusal.to_string()));
+            let inner = error.into_inner().and_then(|inner| inner.downcast::<Refusal>().ok());
+            assert_eq!(inner.as_deref(), Some(&refusal));
+        }
+    }
+}

@@ -1,0 +1,53 @@
+//! The small program of document 01.
+
+use reference::plain::{call, open};
+use reference::{Outcome, Refusal, BLOCK};
+use std::fs;
+
+const LIST: &str = "system.transfer.list";
+const IMAGE: &str = "system.img";
+const NEW: &str = "system.new.dat";
+
+fn read(name: &str) -> Vec<u8> {
+    fs::read(name).unwrap_or_default()
+}
+
+fn main() {
+    let list = read(LIST);
+    let mut image = read(IMAGE);
+    let new = read(NEW);
+    if image.len() > 8 * BLOCK {
+        println!("refused 1 0");
+        return;
+    }
+    if list.len() > BLOCK && image.len().is_multiple_of(BLOCK) {
+        println!("refused 2 0");
+        return;
+    }
+    let mut stash = vec![0; 3 * BLOCK];
+    let mut work = vec![0; 3 * BLOCK];
+    let mut state = open(&list, image.len(), stash.len(), work.len());
+    if state.refusal.number != 0 {
+        println!("refused {} {}", state.refusal.number, state.refusal.line);
+        return;
+    }
+    let mut total = 0;
+    let mut rest = &new[..];
+    loop {
+        let (piece, after) = rest.split_at(rest.len().min(BLOCK));
+        let answer = call(&list, &mut image, &mut stash, &mut work, piece, state);
+        total += answer.taken;
+        state = answer.state;
+        rest = after;
+        if answer.outcome == Outcome::More && !rest.is_empty() {
+            continue;
+        }
+        fs::write(IMAGE, &image).expect("the image cannot be written");
+        match answer.outcome {
+            Outcome::Done => println!("done {total}"),
+            Outcome::More => println!("more {total}"),
+            Outcome::Refused(Refusal { number, line }) => println!("refused {number} {line}"),
+        }
+        return;
+    }
+}

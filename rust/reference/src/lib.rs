@@ -1,0 +1,93 @@
+//! Document 01 written twice, apart from the proved code: [`plain`] in plain loops, [`model`] slowly and by other means. The limits, the
+//! types and SHA-1 are all that the two share.
+
+#![forbid(unsafe_code)]
+
+pub mod model;
+pub mod plain;
+mod sha1;
+
+pub use sha1::digest;
+
+/// Bytes of a block.
+pub const BLOCK: usize = 4_096;
+/// Blocks of the largest image.
+pub const MOST_IMAGE: usize = 1_048_576;
+/// Blocks of the largest stash area, and of the largest work area.
+pub const MOST_AREA: usize = 4_096;
+/// Bytes of the longest list.
+pub const MOST_LIST: usize = 4_194_304;
+/// Stashes held at once.
+pub const MOST_STASHES: usize = 64;
+
+/// A SHA-1 digest.
+pub type Hash = [u8; 20];
+
+/// A refusal's number and line; in a state, number 0 is none.
+#[derive(Clone, Copy, PartialEq, Eq, Debug)]
+pub struct Refusal {
+    pub number: usize,
+    pub line: usize,
+}
+
+/// The lengths at opening, in bytes.
+#[derive(Clone, Copy, PartialEq, Eq, Debug)]
+pub struct Lengths {
+    pub list: usize,
+    pub image: usize,
+    pub stash: usize,
+    pub work: usize,
+}
+
+/// What a run carries from call to call. Stash k of `count`, oldest first: its hash at `hashes[20 * k..]`, its blocks in `sizes[k]`.
+#[derive(Clone, Copy, PartialEq, Eq, Debug)]
+pub struct State {
+    pub hashes: [u8; 20 * MOST_STASHES],
+    pub sizes: [usize; MOST_STASHES],
+    pub count: usize,
+    pub line: usize,
+    pub at: usize,
+    pub into: usize,
+    pub refusal: Refusal,
+    pub lengths: Lengths,
+}
+
+impl State {
+    /// What a refused opening leaves, save its refusal.
+    pub const ZERO: State = State {
+        hashes: [0; 20 * MOST_STASHES],
+        sizes: [0; MOST_STASHES],
+        count: 0,
+        line: 0,
+        at: 0,
+        into: 0,
+        refusal: Refusal { number: 0, line: 0 },
+        lengths: Lengths { list: 0, image: 0, stash: 0, work: 0 },
+    };
+}
+
+/// How a call ended.
+#[derive(Clone, Copy, PartialEq, Eq, Debug)]
+pub enum Outcome {
+    Done,
+    More,
+    Refused(Refusal),
+}
+
+impl Outcome {
+    /// The number it is refused with; 0 where it is not.
+    pub fn number(&self) -> usize {
+        match self {
+            Outcome::Done | Outcome::More => 0,
+            Outcome::Refused(refusal) => refusal.number,
+        }
+    }
+}
+
+/// What a call gives back.
+#[derive(Clone, Copy, PartialEq, Eq, Debug)]
+pub struct Answer {
+    pub state: State,
+    pub outcome: Outcome,
+    pub taken: usize,
+}

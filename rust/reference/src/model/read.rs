@@ -1,0 +1,143 @@
+//! Lines and the header split into their fields.
+
+use crate::{Lengths, Refusal, BLOCK};
+
+pub(super) type Ranges = Vec<(u64, u64)>;
+
+pub(super) enum Source {
+    Image(Ranges),
+    Stashes(Vec<(Vec<u8>, Ranges)>),
+    Both(Ranges, Ranges, Vec<(Vec<u8>, Ranges)>),
+}
+
+pub(super) enum Command {
+    Zeros(Ranges),
+    New(Ranges),
+    Move { hash: Vec<u8>, target: Ranges, n: u64, source: Source },
+    Stash { hash: Vec<u8>, source: Ranges },
+    Free { hash: Vec<u8> },
+}
+
+fn number(field: &[u8]) -> Option<u64> {
+    let text = std::str::from_utf8(field).ok()?;
+    let value: u32 = text.parse().ok()?;
+    (value.to_string() == text).then_some(value as u64)
+}
+
+fn hash(field: &[u8]) -> Option<Vec<u8>> {
+    let digits: Vec<u8> = field.iter().map(|c| b"0123456789abcdef".iter().position(|d| d == c).map(|v| v as u8)).collect::<Option<_>>()?;
+    (digits.len() == 40).then(|| digits.chunks(2).map(|two| two[0] << 4 | two[1]).collect())
+}
+
+fn ranges(field: &[u8]) -> Option<Ranges> {
+    let numbers: Vec<u64> = field.split(|c| *c == b',').map(number).collect::<Option<_>>()?;
+    let (count, ends) = numbers.split_first()?;
+    if *count != ends.len() as u64 || *count == 0 || count % 2 == 1 {
+        return None;
+    }
+    let pairs: Ranges = ends.chunks(2).map(|two| (two[0], two[1])).collect();
+    pairs.iter().all(|(start, end)| start <= end).then_some(pairs)
+}
+
+fn parts(fields: &[&[u8]]) -> Option<Vec<(Vec<u8>, Ranges)>> {
+    if fields.is_empty() {
+        return None;
+    }
+    fields
+        .iter()
+        .map(|field| {
+            let colon = field.iter().position(|c| *c == b':')?;
+            Some((hash(&field[..colon])?, ranges(&field[colon + 1..])?))
+        })
+        .collect()
+}
+
+/// A line with its LF, if it has one: the command, or 6 or 7.
+pub(super) fn decode(line: &[u8]) -> Result<Command, usize> {
+    let word = line.split(|c| *c == b' ' || *c == b'\n').next().unwrap_or(b"");
+    if word == b"bsdiff" || word == b"imgdiff" {
+        return Err(7);
+    }
+    let body = line.strip_suffix(b"\n").ok_or(6usize)?;
+    let fields: Vec<&[u8]> = body.split(|c| *c == b' ').collect();
+    fields_of(&fields).ok_or(6)
+}
+
+fn fields_of(fields: &[&[u8]]) -> Option<Command> {
+    match fields {
+        [b"zero" | b"erase", set] => Some(Command::Zeros(ranges(set)?)),
+        [b"new", set] => Some(Command::New(ranges(set)?)),
+        [b"free", name] => Some(Command::Free { hash: hash(name)? }),
+        [b"stash", name, set] => Some(Command::Stash { hash: hash(name)?, source: ranges(set)? }),
+        [b"move", name, set, n, rest @ ..] => {
+            let source = match rest {
+                [set] => Source::Image(ranges(set)?),
+                [b"-", after @ ..] => Source::Stashes(parts(after)?),
+                [set, places, after @ ..] => Source::Both(ranges(set)?, ranges(places)?, parts(after)?),
+                [] => return None,
+            };
+            Some(Command::Move { hash: hash(name)?, target: ranges(set)?, n: number(n)?, source })
+        }
+        _ => None,
+    }
+}
+
+pub(super) fn size(set: &Ranges) -> u64 {
+    set.iter().map(|(start, end)| end - start).sum()
+}
+
+pub(super) fn past(set: &Ranges, end: u64) -> bool {
+    set.iter().any(|pair| pair.1 > end)
+}
+
+pub(super) fn blocks(set: &Ranges) -> Vec<usize> {
+    set.iter().flat_map(|(start, end)| *start as usize..*end as usize).collect()
+}
+
+/// Header numbers, or the refusal 3; and the bytes the header has.
+fn header(list: &[u8]) -> Result<(Vec<u64>, usize), Refusal> {
+    let mut numbers = Vec::new();
+    let mut length = 0;
+    let mut lines = list.split_inclusive(|c| *c == b'\n');
+    for line in 1..=4 {
+        let refusal = Refusal { number: 3, line };
+        let text = lines.next().ok_or(refusal)?;
+        numbers.push(text.strip_suffix(b"\n").and_then(number).ok_or(refusal)?);
+        length += text.len();
+    }
+    Ok((numbers, length))
+}
+
+pub(super) struct Rules {
+    pub(super) new: u64,
+    pub(super) stashes: u64,
+    pub(super) held: u64,
+    pub(super) image: u64,
+    pub(super) work: u64,
+    pub(super) after: usize,
+}
+
+/// 1 to 5.
+pub(super) fn rules(list: &[u8], lengths: &Lengths) -> Result<Rules, Refusal> {
+    let block = BLOCK as u64;
+    for (bytes, most) in [(lengths.image, 1_048_576u64), (lengths.stash, 4_096), (lengths.work, 4_096)] {
+        if !(bytes as u64).is_multiple_of(block) || bytes as u64 > most * block {
+            return Err(Refusal { number: 1, line: 0 });
+        }
+    }
+    if list.len() > 4_194_304 {
+        return Err(Refusal { number: 2, line: 0 });
+    }
+    let (numbers, after) = header(list)?;
+    if numbers[0] != 3 {
+        return Err(Refusal { number: 4, line: 1 });
+    }
+    if numbers[2] > 64 {
+        return Err(Refusal { number: 5, line: 3 });
+    }
+    if numbers[3] * block > lengths.stash as u64 {
+        return Err(Refusal { number: 5, line: 4 });
+    }
+    let (image, work) = (lengths.image as u64 / block, lengths.work as u64 / block);
+    Ok(Rules { new: numbers[1], stashes: numbers[2], held: numbers[3], image, work, after })
+}

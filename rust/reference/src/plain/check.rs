@@ -1,0 +1,89 @@
+//! What refuses a line.
+
+use super::command::{Command, Move};
+use super::text::Set;
+use super::Header;
+use crate::{Lengths, State, BLOCK, MOST_AREA};
+
+/// 8 to 14 for one command against what is held: the lowest that applies.
+pub(super) fn check(list: &[u8], header: &Header, lengths: &Lengths, held: &State, command: &Command) -> Result<(), usize> {
+    let image = (lengths.image / BLOCK) as u64;
+    let work = (lengths.work / BLOCK) as u64;
+    match command {
+        Command::Zeros(target) | Command::New(target) => {
+            if target.end > image {
+                return Err(8);
+            }
+        }
+        Command::Free(hash) => {
+            if held.find(hash).is_none() {
+                return Err(10);
+            }
+        }
+        Command::Stash(hash, source) => {
+            if source.end > image {
+                return Err(8);
+            }
+            if source.blocks > work {
+                return Err(9);
+            }
+            if held.find(hash).is_some() {
+                return Err(13);
+            }
+            if held.count as u64 + 1 > header.stashes || held.blocks(held.count) + source.blocks > header.blocks {
+                return Err(14);
+            }
+        }
+        Command::Move(line) => check_move(list, image, work, held, line)?,
+    }
+    Ok(())
+}
+
+fn check_move(list: &[u8], image: u64, work: u64, held: &State, line: &Move) -> Result<(), usize> {
+    let source_blocks = line.source.map_or(0, |s| s.blocks);
+    if line.target.end > image || line.source.map_or(0, |s| s.end) > image {
+        return Err(8);
+    }
+    if line.n > work || source_blocks > work {
+        return Err(9);
+    }
+    let mut differ = false;
+    let mut places = 0u64;
+    for (hash, set) in line.parts(list) {
+        let k = held.find(&hash).ok_or(10usize)?;
+        differ |= held.sizes[k] as u64 != set.blocks;
+        places += set.blocks;
+    }
+    match line.places {
+        Some(set) => {
+            differ |= set.blocks != source_blocks;
+            places += set.blocks;
+        }
+        None => places += source_blocks,
+    }
+    if differ || line.target.blocks != line.n || places != line.n {
+        return Err(11);
+    }
+    if line.parts == 0 {
+        return Ok(());
+    }
+    // The places are N by now, and N is within the work area.
+    let mut marks = [false; MOST_AREA];
+    if let Some(set) = line.places {
+        mark(list, &set, line.n, &mut marks)?;
+    }
+    for (_, set) in line.parts(list) {
+        mark(list, &set, line.n, &mut marks)?;
+    }
+    Ok(())
+}
+
+fn mark(list: &[u8], set: &Set, n: u64, marks: &mut [bool; MOST_AREA]) -> Result<(), usize> {
+    for place in set.each(list) {
+        if place as u64 >= n || marks[place] {
+            return Err(12);
+        }
+        marks[place] = true;
+    }
+    Ok(())
+}

@@ -1,0 +1,120 @@
+//! A line read as a command.
+
+use super::text::{Reader, Set};
+use crate::Hash;
+
+/// A `move` as written: `source` in forms one and three, `places` in form three, `parts` P's from `first` in forms two and three.
+#[derive(Clone, Copy)]
+pub(super) struct Move {
+    pub(super) hash: Hash,
+    pub(super) target: Set,
+    pub(super) n: u64,
+    pub(super) source: Option<Set>,
+    pub(super) places: Option<Set>,
+    pub(super) first: usize,
+    pub(super) parts: usize,
+}
+
+pub(super) enum Command {
+    Zeros(Set),
+    New(Set),
+    Move(Move),
+    Stash(Hash, Set),
+    Free(Hash),
+}
+
+struct Parts<'a> {
+    reader: Reader<'a>,
+    left: usize,
+}
+
+impl Iterator for Parts<'_> {
+    type Item = (Hash, Set);
+
+    fn next(&mut self) -> Option<(Hash, Set)> {
+        if self.left == 0 {
+            return None;
+        }
+        self.left -= 1;
+        self.reader.byte(b' ')?;
+        self.reader.part()
+    }
+}
+
+impl Move {
+    pub(super) fn parts<'a>(&self, text: &'a [u8]) -> impl Iterator<Item = (Hash, Set)> + 'a {
+        Parts { reader: Reader { text, at: self.first }, left: self.parts }
+    }
+}
+
+fn word_is(text: &[u8], word: &[u8]) -> bool {
+    text.len() >= word.len() && text[..word.len()] == *word && matches!(text.get(word.len()), None | Some(b' ') | Some(b'\n'))
+}
+
+/// The command line at `at` and where the next line starts; or 6 or 7.
+pub(super) fn decode(list: &[u8], at: usize) -> Result<(Command, usize), usize> {
+    let text = &list[at.min(list.len())..];
+    if word_is(text, b"bsdiff") || word_is(text, b"imgdiff") {
+        return Err(7);
+    }
+    let mut reader = Reader { text: list, at };
+    match command(&mut reader) {
+        Some(command) => Ok((command, reader.at)),
+        None => Err(6),
+    }
+}
+
+fn command(reader: &mut Reader) -> Option<Command> {
+    let text = &reader.text[reader.at..];
+    for (word, which) in [(&b"zero"[..], 0), (b"erase", 0), (b"new", 1), (b"move", 2), (b"stash", 3), (b"free", 4)] {
+        if !word_is(text, word) {
+            continue;
+        }
+        reader.at += word.len();
+        reader.byte(b' ')?;
+        let command = match which {
+            0 => Command::Zeros(reader.set()?),
+            1 => Command::New(reader.set()?),
+            2 => Command::Move(move_line(reader)?),
+            3 => {
+                let hash = reader.hash()?;
+                reader.byte(b' ')?;
+                Command::Stash(hash, reader.set()?)
+            }
+            _ => Command::Free(reader.hash()?),
+        };
+        reader.byte(b'\n')?;
+        return Some(command);
+    }
+    None
+}
+
+/// What follows `move ` up to the LF.
+fn move_line(reader: &mut Reader) -> Option<Move> {
+    let hash = reader.hash()?;
+    reader.byte(b' ')?;
+    let target = reader.set()?;
+    reader.byte(b' ')?;
+    let n = reader.number()?;
+    reader.byte(b' ')?;
+    let mut line = Move { hash, target, n, source: None, places: None, first: 0, parts: 0 };
+    if reader.peek() == Some(b'-') {
+        reader.at += 1;
+    } else {
+        line.source = Some(reader.set()?);
+        if reader.peek() == Some(b'\n') {
+            return Some(line);
+        }
+        reader.byte(b' ')?;
+        line.places = Some(reader.set()?);
+    }
+    line.first = reader.at;
+    loop {
+        reader.byte(b' ')?;
+        reader.part()?;
+        line.parts += 1;
+        if reader.peek() == Some(b'\n') {
+            return Some(line);
+        }
+    }
+}

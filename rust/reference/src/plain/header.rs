@@ -1,0 +1,52 @@
+//! The areas, the list's length and the header.
+
+use super::text::Reader;
+use crate::{Lengths, Refusal, BLOCK, MOST_AREA, MOST_IMAGE, MOST_LIST, MOST_STASHES};
+
+/// Lines 2 to 4, and where the first command line starts.
+pub struct Header {
+    pub new: u64,
+    pub stashes: u64,
+    pub blocks: u64,
+    pub after: usize,
+}
+
+/// The header of a list for areas of these lengths; or 1 to 5.
+pub fn header(list: &[u8], lengths: &Lengths) -> Result<Header, Refusal> {
+    if !good_area(lengths.image, MOST_IMAGE) || !good_area(lengths.stash, MOST_AREA) || !good_area(lengths.work, MOST_AREA) {
+        return Err(Refusal { number: 1, line: 0 });
+    }
+    if lengths.list > MOST_LIST {
+        return Err(Refusal { number: 2, line: 0 });
+    }
+    let (version, header) = read(list)?;
+    if version != 3 {
+        return Err(Refusal { number: 4, line: 1 });
+    }
+    if header.stashes > MOST_STASHES as u64 {
+        return Err(Refusal { number: 5, line: 3 });
+    }
+    if header.blocks > (lengths.stash / BLOCK) as u64 {
+        return Err(Refusal { number: 5, line: 4 });
+    }
+    Ok(header)
+}
+
+fn good_area(bytes: usize, most: usize) -> bool {
+    bytes.is_multiple_of(BLOCK) && bytes / BLOCK <= most
+}
+
+/// The version and the other lines; or 3.
+fn read(list: &[u8]) -> Result<(u64, Header), Refusal> {
+    let mut reader = Reader { text: list, at: 0 };
+    let mut numbers = [0u64; 4];
+    for (k, number) in numbers.iter_mut().enumerate() {
+        let read = reader.number();
+        match (read, reader.byte(b'\n')) {
+            (Some(value), Some(())) => *number = value,
+            _ => return Err(Refusal { number: 3, line: k + 1 }),
+        }
+    }
+    let [version, new, stashes, blocks] = numbers;
+    Ok((version, Header { new, stashes, blocks, after: reader.at }))
+}

@@ -1,0 +1,13 @@
+//! Document 01 in plain loops. Nothing here allocates, and nothing panics, whatever the bytes, the lengths and the state.
+
+mod call;
+mod check;
+mod command;
+mod header;
+mod open;
+mod stashes;
+mod text;
+
+pub use call::{call, run};
+pub use header::{header, Header};
+pub use open::open;

@@ -1,0 +1,44 @@
+//! Opening.
+
+use super::check::check;
+use super::command::{decode, Command};
+use super::header;
+use crate::{Lengths, Refusal, State};
+
+/// Opens a list for areas of these lengths in bytes.
+pub fn open(list: &[u8], image: usize, stash: usize, work: usize) -> State {
+    let lengths = Lengths { list: list.len(), image, stash, work };
+    match opening(list, &lengths) {
+        Ok(at) => State { line: 5, at, lengths, ..State::ZERO },
+        Err(refusal) => State { refusal, ..State::ZERO },
+    }
+}
+
+fn opening(list: &[u8], lengths: &Lengths) -> Result<usize, Refusal> {
+    let header = header(list, lengths)?;
+    let mut held = State::ZERO;
+    let mut new = 0u64;
+    let mut at = header.after;
+    let mut line = 5;
+    while at < list.len() {
+        let refuse = |number| Refusal { number, line };
+        let (command, next) = decode(list, at).map_err(refuse)?;
+        check(list, &header, lengths, &held, &command).map_err(refuse)?;
+        match command {
+            Command::New(target) => new += target.blocks,
+            Command::Stash(hash, source) => held.hold(&hash, source.blocks as usize),
+            Command::Free(hash) => {
+                if let Some(j) = held.find(&hash) {
+                    held.drop_stash(j);
+                }
+            }
+            Command::Zeros(_) | Command::Move(_) => {}
+        }
+        at = next;
+        line += 1;
+    }
+    if new != header.new {
+        return Err(Refusal { number: 15, line: 2 });
+    }
+    Ok(header.after)
+}

@@ -1,10 +1,10 @@
 /*
  * muongrabi: runs an Android transfer list of version 3 over a lent image while new data arrives in pieces.
  *
- * Link with libmuongrabi.a: `pkg-config --cflags --libs muongrabi` after `./install PREFIX`, or target/staticlib/libmuongrabi.a as it is
- * built. The archive is for x86-64 Linux; it wants memcpy, memmove and memset of the C library and nothing else. Nothing is
- * allocated, no file is opened and no state is kept inside: everything a function works on is lent by the caller, and what must be
- * remembered between calls is the state it gives back.
+ * For C99 and C++98, and later ones. Link with libmuongrabi.a: `pkg-config --cflags --libs muongrabi` after `./install PREFIX`, or
+ * target/staticlib/libmuongrabi.a as it is built. The archive is for x86-64 Linux; it wants memcpy, memmove and memset of the C library,
+ * some 26 KiB of stack, and nothing else. Nothing is allocated, no file is opened and no state is kept inside: everything a function works
+ * on is lent by the caller, and what must be remembered between calls is the state it gives back.
  *
  *     muongrabi_state state = muongrabi_open(list, list_length, image_length, stash_length, work_length);
  *     while (there is new data, or once with none) {
@@ -15,9 +15,9 @@
  *     }
  *
  * For all functions: a pointer with length n names n readable bytes, writable ones for image, stash and work; cuts names n readable
- * numbers; out names 20 writable bytes. A null pointer names no bytes and no numbers, whatever n is given with it. What is written (image,
- * stash, work, out) overlaps nothing else that the same call is lent. Every value of every byte, number and state field is allowed and
- * gets an answer.
+ * numbers; out names 20 writable bytes and is not null. A null pointer elsewhere names no bytes and no numbers, whatever n is given with
+ * it. What is written (image, stash, work, out) overlaps nothing else that the same call is lent. Every value of every byte, number and
+ * state field is allowed and gets an answer.
  */
 #ifndef MUONGRABI_H
 #define MUONGRABI_H
@@ -36,12 +36,12 @@ extern "C" {
 #define MUONGRABI_VERSION "0.1.0"
 #define MUONGRABI_ABI 1   /* another number whenever the layout of a struct or the parameters of a function below change */
 
-/* Limits. */
-#define MUONGRABI_BLOCK 4096u           /* bytes of a block */
-#define MUONGRABI_MOST_IMAGE 1048576u   /* blocks of the image */
-#define MUONGRABI_MOST_AREA 4096u       /* blocks of the stash area, and of the work area */
-#define MUONGRABI_MOST_LIST 4194304u    /* bytes of the list */
-#define MUONGRABI_MOST_STASHES 64u      /* stashes held at once */
+/* Limits, 64 bits wide, so that blocks times bytes do not wrap. */
+#define MUONGRABI_BLOCK 4096ul          /* bytes of a block */
+#define MUONGRABI_MOST_IMAGE 1048576ul  /* blocks of the image */
+#define MUONGRABI_MOST_AREA 4096ul      /* blocks of the stash area, and of the work area */
+#define MUONGRABI_MOST_LIST 4194304ul   /* bytes of the list */
+#define MUONGRABI_MOST_STASHES 64ul     /* stashes held at once */
 
 /* Outcomes of a call. */
 #define MUONGRABI_DONE 0u      /* the list is finished */
@@ -88,7 +88,7 @@ static inline const char *muongrabi_refusal_text(size_t number)
         "nothing is refused",
         "the image, stash or work area is not whole blocks of 4096 bytes, or is over its limit",
         "the list is longer than 4194304 bytes",
-        "a header line is missing, is not a plain number or does not end in a line feed",
+        "a header line is missing, is no number from 0 to 4294967295 in plain digits, or has no line feed",
         "the list's version is not 3",
         "the list asks for more than 64 stashes, or for more blocks than the stash area has",
         "the line is not a command: its word is unknown, or its form is wrong",
@@ -100,7 +100,7 @@ static inline const char *muongrabi_refusal_text(size_t number)
         "a place lies past the end of the source, or is taken twice",
         "a stash of this hash is held already",
         "the stash would pass the number of stashes (line 3) or of blocks (line 4)",
-        "the blocks that all lines of new data write are not as many as line 2 says",
+        "the targets of all new lines together do not have as many blocks as line 2 says",
         "the source does not have the hash that the list gives",
         "the state does not fit the list and the areas of this call",
     };
@@ -171,11 +171,11 @@ MUONGRABI_LAYOUT(answer_taken, offsetof(muongrabi_answer, taken) == 1896);
 MUONGRABI_LAYOUT(answer, sizeof(muongrabi_answer) == 1904);
 #undef MUONGRABI_LAYOUT
 
-/* MUONGRABI_ABI as the archive has it. The name has the number too, so that what was compiled with another header does not link. */
+/* MUONGRABI_ABI as the archive has it. The name has the number too: what was compiled with a header of another ABI does not link. */
 size_t muongrabi_abi_1(void);
 
-/* Writes the SHA-1 digest of length bytes to out. */
-void muongrabi_digest(const uint8_t *bytes, size_t length, uint8_t out[20]);
+/* Writes the SHA-1 digest of the bytes to out. */
+void muongrabi_digest(const uint8_t *bytes, size_t bytes_length, uint8_t out[20]);
 
 /*
  * Checks the whole list for areas of these lengths in bytes. Nothing but the list is read, and nothing is written. In the state given
@@ -187,8 +187,8 @@ muongrabi_state muongrabi_open(const uint8_t *list, size_t list_length, size_t i
  * Runs the list from where the state stands until it needs a byte that the piece does not have, the list is finished, or a line is
  * refused. A refusal other than 17 is held in the state given back, and every later call repeats it. With 17 the state comes back as
  * it was, and nothing is taken or changed. A refused line changes nothing itself, except the work area where its hash differs (16).
- * Nothing is taken on trust from the opening: a state or a length that does not fit is refused with 17, and each line is read and
- * checked again (6 to 14) before it runs, so that of a list altered since opening nothing runs that the rules refuse.
+ * Nothing rests on what the opening found: state and lengths are looked at (17), and each line is read and checked again (6 to 14) before
+ * it runs, so that a line altered since then is refused where it stands. Line 2 is the opening's alone (15).
  */
 muongrabi_answer muongrabi_call(const uint8_t *list, size_t list_length,
                                 uint8_t *image, size_t image_length,
@@ -237,9 +237,9 @@ static inline size_t muongrabi_lent_length(const void *lent, size_t length)
     return lent ? length : 0;
 }
 
-static inline void muongrabi_digest_lent(const uint8_t *bytes, size_t length, uint8_t out[20])
+static inline void muongrabi_digest_lent(const uint8_t *bytes, size_t bytes_length, uint8_t out[20])
 {
-    muongrabi_digest(muongrabi_lent_bytes(bytes), muongrabi_lent_length(bytes, length), out);
+    muongrabi_digest(muongrabi_lent_bytes(bytes), muongrabi_lent_length(bytes, bytes_length), out);
 }
 
 static inline muongrabi_state muongrabi_open_lent(const uint8_t *list, size_t list_length,

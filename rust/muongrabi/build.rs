@@ -1,6 +1,6 @@
 //! Finds the archive of the proved library: in the folder MUONGRABI_LIB_DIR, else in target/staticlib of the repository.
 
-use std::env::var;
+use std::env::{var, var_os};
 use std::path::{Path, PathBuf};
 
 const ARCHIVE: &str = "libmuongrabi.a";
@@ -17,7 +17,7 @@ fn main() {
     }
     let repository = Path::new(env!("CARGO_MANIFEST_DIR")).join("../..");
     let repository = repository.canonicalize().unwrap_or(repository);
-    let named = var("MUONGRABI_LIB_DIR").ok().filter(|folder| !folder.is_empty()).map(PathBuf::from);
+    let named = var_os("MUONGRABI_LIB_DIR").filter(|folder| !folder.is_empty()).map(PathBuf::from);
     let folder = named.clone().unwrap_or_else(|| repository.join("target/staticlib"));
     // Cargo runs a build script in the package's folder, so a relative name would not be the caller's.
     if folder.is_relative() {
@@ -25,13 +25,8 @@ fn main() {
     }
     let archive = folder.join(ARCHIVE);
     if !archive.is_file() {
-        let found = match named {
-            Some(_) => "MUONGRABI_LIB_DIR names",
-            None => "MUONGRABI_LIB_DIR is not set, and this is where it would be built:",
-        };
         stop(&format!(
-            "the proved library is not there: no {ARCHIVE} in {folder}\n\
-             ({found} that folder).\n\
+            "the proved library is not there: no {ARCHIVE} in {folder}{named}.\n\
              Build it, which also proves it (some minutes; it needs the Rattle toolchain):\n\
              \n\
              \x20   cd {repository} && ./build library\n\
@@ -40,6 +35,7 @@ fn main() {
              \n\
              \x20   MUONGRABI_LIB_DIR=/folder/of/the/archive cargo build",
             folder = folder.display(),
+            named = if named.is_some() { ", which MUONGRABI_LIB_DIR names" } else { "" },
             repository = repository.display(),
         ));
     }

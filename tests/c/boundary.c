@@ -1,6 +1,7 @@
 /*
- * Every lent area stands against a page that may not be touched, behind it or before it, and list, piece and cuts may not be written:
- * a byte read or written outside what was lent ends the program. Ends in one line `N passed, M failed`.
+ * Lent areas stand against a page that may not be touched, behind them or before them, and list, piece and cuts may not be written: a byte
+ * read or written outside what was lent ends the program. What is null, and refusals in words, are tried after that. Ends in one line
+ * `N passed, M failed`.
  */
 #define _DEFAULT_SOURCE
 #include <stdio.h>
@@ -133,58 +134,62 @@ static size_t make_list(void)
         ab, h, cde, ba, ab, phq, h, ab);
 }
 
-/* The whole list in pieces of one length, every area exactly as large as it must be. */
+/* The whole list in pieces of one length, over a stash area as large as it must be and a work area of another length. */
 static void whole_runs(size_t length)
 {
-    static uint8_t image[8 * BLOCK], data[3 * BLOCK], area[3 * BLOCK];
+    static uint8_t image[8 * BLOCK], data[3 * BLOCK], stash[3 * BLOCK], work[4 * BLOCK];
     fill(data, "pqr");
     size_t pieces[] = {1, 64, 4095, 4096, 4097, 3 * BLOCK};
     for (int behind = 0; behind < 2; behind++) {
         for (size_t p = 0; p < sizeof pieces / sizeof *pieces; p++) {
             fill(image, "ABCDEFGH");
-            fill(area, "xyz");
+            fill(stash, "xyz");
+            fill(work, "stuv");
             const uint8_t *l = lay(&list_lot, list, length, behind, 1);
             uint8_t *i = lay(&image_lot, image, sizeof image, behind, 0);
-            uint8_t *s = lay(&stash_lot, area, sizeof area, behind, 0);
-            uint8_t *w = lay(&work_lot, area, sizeof area, behind, 0);
-            muongrabi_state state = muongrabi_open(l, length, sizeof image, sizeof area, sizeof area);
+            uint8_t *s = lay(&stash_lot, stash, sizeof stash, behind, 0);
+            uint8_t *w = lay(&work_lot, work, sizeof work, behind, 0);
+            muongrabi_state state = muongrabi_open(l, length, sizeof image, sizeof stash, sizeof work);
             muongrabi_answer answer = {.outcome = MUONGRABI_MORE};
             size_t taken = 0;
             int good = 1;
             for (size_t at = 0; at < sizeof data && answer.outcome == MUONGRABI_MORE; at += pieces[p]) {
                 size_t n = sizeof data - at < pieces[p] ? sizeof data - at : pieces[p];
                 const uint8_t *piece = lay(&piece_lot, data + at, n, behind, 1);
-                answer = muongrabi_call(l, length, i, sizeof image, s, sizeof area, w, sizeof area, piece, n, state);
+                answer = muongrabi_call(l, length, i, sizeof image, s, sizeof stash, w, sizeof work, piece, n, state);
                 state = answer.state;
                 taken += answer.taken;
                 good &= sound(&answer);
             }
             check(good && answer.outcome == MUONGRABI_DONE && taken == sizeof data, "a run's end");
-            check(holds(i, "p0HqBr0p") && holds(s, "HBH") && holds(w, "pHq"), "what a run leaves");
+            check(holds(i, "p0HqBr0p") && holds(s, "HBH") && holds(w, "pHqv"), "what a run leaves");
             check(state.count == 1 && state.sizes[0] == 1 && state.at == length && state.line == 15, "the state at the end");
         }
         size_t cuts[] = {0, 1, 4096, 5000, 0, 99999};
         fill(image, "ABCDEFGH");
+        fill(stash, "xyz");
+        fill(work, "stuv");
         const uint8_t *l = lay(&list_lot, list, length, behind, 1);
         uint8_t *i = lay(&image_lot, image, sizeof image, behind, 0);
-        uint8_t *s = lay(&stash_lot, area, sizeof area, behind, 0);
-        uint8_t *w = lay(&work_lot, area, sizeof area, behind, 0);
+        uint8_t *s = lay(&stash_lot, stash, sizeof stash, behind, 0);
+        uint8_t *w = lay(&work_lot, work, sizeof work, behind, 0);
         const uint8_t *d = lay(&piece_lot, data, sizeof data, behind, 1);
         const size_t *c = (const size_t *)(const void *)lay(&cuts_lot, cuts, sizeof cuts, behind, 1);
-        muongrabi_answer answer = muongrabi_run(l, length, i, sizeof image, s, sizeof area, w, sizeof area, d, sizeof data, c, 6);
-        check(answer.outcome == MUONGRABI_DONE && answer.taken == sizeof data && holds(i, "p0HqBr0p"), "a run over cuts");
+        muongrabi_answer answer = muongrabi_run(l, length, i, sizeof image, s, sizeof stash, w, sizeof work, d, sizeof data, c, 6);
+        check(answer.outcome == MUONGRABI_DONE && answer.taken == sizeof data, "a run over cuts");
+        check(holds(i, "p0HqBr0p") && holds(s, "HBH") && holds(w, "pHqv"), "what a run over cuts leaves");
     }
 }
 
 /* Every beginning of the list, opened and called from every line: nothing is read past its last byte. */
 static void beginnings(size_t length)
 {
-    static uint8_t image[8 * BLOCK], area[3 * BLOCK], data[3 * BLOCK];
+    static uint8_t image[8 * BLOCK], data[3 * BLOCK], stash[3 * BLOCK], work[4 * BLOCK];
     fill(data, "pqr");
     int good = 1;
     for (size_t n = 0; n <= length; n++) {
         const uint8_t *l = lay(&list_lot, list, n, 1, 1);
-        muongrabi_state state = muongrabi_open(l, n, sizeof image, sizeof area, sizeof area);
+        muongrabi_state state = muongrabi_open(l, n, sizeof image, sizeof stash, sizeof work);
         size_t number = state.refusal.number;
         good &= n == length ? number == 0 : only_refused(&state) && (number == 3 || number == 6 || number == 15);
         for (size_t at = 0, line = 1; at <= n; at++) {
@@ -194,13 +199,13 @@ static void beginnings(size_t length)
             memset(&from, 0, sizeof from);
             from.at = at;
             from.line = line;
-            from.lengths = (muongrabi_lengths){n, sizeof image, sizeof area, sizeof area};
+            from.lengths = (muongrabi_lengths){n, sizeof image, sizeof stash, sizeof work};
             fill(image, "ABCDEFGH");
             uint8_t *i = lay(&image_lot, image, sizeof image, 1, 0);
-            uint8_t *s = lay(&stash_lot, area, sizeof area, 1, 0);
-            uint8_t *w = lay(&work_lot, area, sizeof area, 1, 0);
+            uint8_t *s = lay(&stash_lot, stash, sizeof stash, 1, 0);
+            uint8_t *w = lay(&work_lot, work, sizeof work, 1, 0);
             const uint8_t *d = lay(&piece_lot, data, sizeof data, 1, 1);
-            muongrabi_answer answer = muongrabi_call(l, n, i, sizeof image, s, sizeof area, w, sizeof area, d, sizeof data, from);
+            muongrabi_answer answer = muongrabi_call(l, n, i, sizeof image, s, sizeof stash, w, sizeof work, d, sizeof data, from);
             good &= sound(&answer);
         }
     }
@@ -309,7 +314,7 @@ int main(void)
     list_lot = new_lot(2);
     image_lot = new_lot(8);
     stash_lot = new_lot(3);
-    work_lot = new_lot(3);
+    work_lot = new_lot(4);
     piece_lot = new_lot(3);
     cuts_lot = new_lot(1);
     hash_lot = new_lot(1);

@@ -13,6 +13,7 @@ impl Implementation for Library {
         muongrabi::digest(bytes)
     }
 
+    /// Of a refused opening the crate hands out the refusal alone; that its state is zero otherwise is seen through `run`.
     fn open(&self, list: &[u8], image: usize, stash: usize, work: usize) -> State {
         match muongrabi::open(list, muongrabi::Lengths { image, stash, work }) {
             Ok(state) => state_of(&state),

@@ -1,5 +1,5 @@
-//! What crosses to the proved library: its functions and structs, laid out as in `include/muongrabi.h`. No other file knows them, so
-//! that the public types can stay when something else crosses.
+//! What crosses to the proved library, laid out as in `include/muongrabi.h`. All `unsafe` is here: the functions below are safe, and the
+//! public types hide the structs, so that they can stay when something else crosses.
 
 use crate::MOST_STASHES;
 use core::mem::{offset_of, size_of};
@@ -45,7 +45,7 @@ pub struct Answer {
     pub taken: usize,
 }
 
-/// The layout that the library was compiled with. It changes together with the ABI's number in build.rs.
+/// The layout that the library was compiled with. It changes together with the number in `muongrabi_abi_1`.
 const _: () = {
     assert!(size_of::<usize>() == 8);
     assert!(size_of::<Refusal>() == 16);
@@ -69,9 +69,10 @@ const _: () = {
 
 #[rustfmt::skip]
 extern "C" {
-    pub fn muongrabi_digest(bytes: *const u8, length: usize, out: *mut u8);
-    pub fn muongrabi_open(list: *const u8, length: usize, image: usize, stash: usize, work: usize) -> State;
-    pub fn muongrabi_call(
+    fn muongrabi_abi_1() -> usize;
+    fn muongrabi_digest(bytes: *const u8, bytes_length: usize, out: *mut u8);
+    fn muongrabi_open(list: *const u8, list_length: usize, image_length: usize, stash_length: usize, work_length: usize) -> State;
+    fn muongrabi_call(
         list: *const u8, list_length: usize,
         image: *mut u8, image_length: usize,
         stash: *mut u8, stash_length: usize,
@@ -79,7 +80,7 @@ extern "C" {
         piece: *const u8, piece_length: usize,
         state: State,
     ) -> Answer;
-    pub fn muongrabi_run(
+    fn muongrabi_run(
         list: *const u8, list_length: usize,
         image: *mut u8, image_length: usize,
         stash: *mut u8, stash_length: usize,
@@ -87,4 +88,55 @@ extern "C" {
         data: *const u8, data_length: usize,
         cuts: *const usize, cuts_length: usize,
     ) -> Answer;
+}
+
+/// Only an archive of this layout has a function of that name, so that no other one links, wherever the linker found it.
+fn ask_abi() {
+    // SAFETY: it takes nothing and gives a number.
+    unsafe { muongrabi_abi_1() };
+}
+
+pub fn digest(bytes: &[u8]) -> [u8; 20] {
+    let mut out = [0; 20];
+    // SAFETY: the bytes are lent to be read, and 20 bytes to be written.
+    unsafe { muongrabi_digest(bytes.as_ptr(), bytes.len(), out.as_mut_ptr()) };
+    out
+}
+
+pub fn open(list: &[u8], image_length: usize, stash_length: usize, work_length: usize) -> State {
+    ask_abi();
+    // SAFETY: only the list is read.
+    unsafe { muongrabi_open(list.as_ptr(), list.len(), image_length, stash_length, work_length) }
+}
+
+#[rustfmt::skip]
+pub fn call(list: &[u8], image: &mut [u8], stash: &mut [u8], work: &mut [u8], piece: &[u8], state: &State) -> Answer {
+    ask_abi();
+    // SAFETY: five slices, each with its own length. The three that are written are borrowed for writing, so none overlaps another.
+    unsafe {
+        muongrabi_call(
+            list.as_ptr(), list.len(),
+            image.as_mut_ptr(), image.len(),
+            stash.as_mut_ptr(), stash.len(),
+            work.as_mut_ptr(), work.len(),
+            piece.as_ptr(), piece.len(),
+            *state,
+        )
+    }
+}
+
+#[rustfmt::skip]
+pub fn run(list: &[u8], image: &mut [u8], stash: &mut [u8], work: &mut [u8], data: &[u8], cuts: &[usize]) -> Answer {
+    ask_abi();
+    // SAFETY: as in `call`; the cuts are lent to be read.
+    unsafe {
+        muongrabi_run(
+            list.as_ptr(), list.len(),
+            image.as_mut_ptr(), image.len(),
+            stash.as_mut_ptr(), stash.len(),
+            work.as_mut_ptr(), work.len(),
+            data.as_ptr(), data.len(),
+            cuts.as_ptr(), cuts.len(),
+        )
+    }
 }

@@ -4,8 +4,8 @@
 //!
 //! This crate is the safe face of a library that is proved: any bytes as list, data or state get an answer; a list opens exactly when it
 //! meets the rules, and then does what they say, in order; and however the new data is cut into pieces, what stands after the last call is
-//! what the rules give for the pieces joined. The crate allocates nothing, opens no file and keeps nothing: everything it works on is lent
-//! to it, and what must be remembered between calls is the [`State`].
+//! what the rules give for the pieces joined. Nothing is allocated, no file is opened and nothing is kept inside: all that is worked on is
+//! lent, and what must be remembered between calls is the [`State`]. A call wants some 26 KiB of stack.
 //!
 //! ```
 //! use muongrabi::{Areas, Outcome, Updater, BLOCK};
@@ -42,11 +42,13 @@
 
 #![no_std]
 #![warn(missing_docs)]
+#![deny(unsafe_code)]
 
 #[cfg(feature = "std")]
 extern crate std;
 
 mod areas;
+#[allow(unsafe_code)]
 mod exports;
 mod limits;
 mod outcome;
@@ -68,10 +70,7 @@ pub use updater::Updater;
 /// assert_eq!(digest[..4], [0xa9, 0x99, 0x3e, 0x36]);
 /// ```
 pub fn digest(bytes: &[u8]) -> [u8; 20] {
-    let mut out = [0; 20];
-    // SAFETY: the bytes are lent to be read, and 20 bytes to be written.
-    unsafe { exports::muongrabi_digest(bytes.as_ptr(), bytes.len(), out.as_mut_ptr()) };
-    out
+    exports::digest(bytes)
 }
 
 /// Checks the whole list for areas of these lengths, and gives the state of its first command line. No block is looked at.
@@ -85,9 +84,7 @@ pub fn digest(bytes: &[u8]) -> [u8; 20] {
 /// # Ok::<(), muongrabi::Refusal>(())
 /// ```
 pub fn open(list: &[u8], lengths: Lengths) -> Result<State, Refusal> {
-    // SAFETY: only the list is read.
-    let raw = unsafe { exports::muongrabi_open(list.as_ptr(), list.len(), lengths.image, lengths.stash, lengths.work) };
-    let state = State { raw };
+    let state = State { raw: exports::open(list, lengths.image, lengths.stash, lengths.work) };
     match state.refusal() {
         None => Ok(state),
         Some(refusal) => Err(refusal),
@@ -99,7 +96,8 @@ pub fn open(list: &[u8], lengths: Lengths) -> Result<State, Refusal> {
 ///
 /// A refusal other than 17 is held in the state, and every later call repeats it. With 17 (the state does not fit the list and the areas)
 /// the state stays as it was, and nothing is taken or changed. A refused line changes nothing itself, except the work area where its hash
-/// differs (16). Nothing is taken on trust from the opening: each line is checked again before it runs.
+/// differs (16). Nothing rests on what the opening found: state and lengths are looked at (17), and each line is read and checked again (6 to
+/// 14) before it runs, so that a line altered since then is refused where it stands. Line 2 is the opening's alone (15).
 ///
 /// [`Updater`] keeps list, areas and state together; this is for callers who keep them themselves.
 ///
@@ -116,20 +114,9 @@ pub fn open(list: &[u8], lengths: Lengths) -> Result<State, Refusal> {
 /// assert_eq!(second, Called { outcome: Outcome::Done, taken: 96 });
 /// # Ok::<(), muongrabi::Refusal>(())
 /// ```
-#[rustfmt::skip]
 pub fn call(list: &[u8], areas: Areas<'_>, piece: &[u8], state: &mut State) -> Called {
     let Areas { image, stash, work } = areas;
-    // SAFETY: five slices, each with its own length. The three that are written are borrowed for writing, so none overlaps another.
-    let answer = unsafe {
-        exports::muongrabi_call(
-            list.as_ptr(), list.len(),
-            image.as_mut_ptr(), image.len(),
-            stash.as_mut_ptr(), stash.len(),
-            work.as_mut_ptr(), work.len(),
-            piece.as_ptr(), piece.len(),
-            state.raw,
-        )
-    };
+    let answer = exports::call(list, image, stash, work, piece, &state.raw);
     state.raw = answer.state;
     Called::of(&answer)
 }
@@ -146,19 +133,8 @@ pub fn call(list: &[u8], areas: Areas<'_>, piece: &[u8], state: &mut State) -> C
 /// let (called, _) = run(b"3\n2\n0\n0\nnew 2,0,2\n", areas, &[1; 8_192], &[10, 0, 5_000]);
 /// assert_eq!((called.outcome, called.taken), (Outcome::Done, 8_192));
 /// ```
-#[rustfmt::skip]
 pub fn run(list: &[u8], areas: Areas<'_>, data: &[u8], cuts: &[usize]) -> (Called, State) {
     let Areas { image, stash, work } = areas;
-    // SAFETY: as in `call`.
-    let answer = unsafe {
-        exports::muongrabi_run(
-            list.as_ptr(), list.len(),
-            image.as_mut_ptr(), image.len(),
-            stash.as_mut_ptr(), stash.len(),
-            work.as_mut_ptr(), work.len(),
-            data.as_ptr(), data.len(),
-            cuts.as_ptr(), cuts.len(),
-        )
-    };
+    let answer = exports::run(list, image, stash, work, data, cuts);
     (Called::of(&answer), State { raw: answer.state })
 }

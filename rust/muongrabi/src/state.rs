@@ -5,8 +5,8 @@ use core::fmt;
 
 /// Where a run stands between two calls: the current line, the bytes of it that are written, the stashes held.
 ///
-/// [`open`](crate::open) gives the first one, and each [`call`](crate::call) leaves the next one in its place. A call looks at all of a
-/// state before it rests on any of it, so every state is safe to call with; one that does not fit is refused.
+/// [`open`](crate::open) gives the first one, and each [`call`](crate::call) leaves the next one in its place. Every state is safe to call
+/// with: one that is impossible with the list and the areas is refused (17).
 #[derive(Clone, PartialEq, Eq)]
 pub struct State {
     pub(crate) raw: exports::State,
@@ -23,7 +23,7 @@ pub struct Stash {
 
 /// Everything that a state holds, in the open: to look at it, to keep it, or to make a state of what was kept.
 ///
-/// Any values may be put together. A call answers whatever they are, and refuses what does not fit (17).
+/// Any values may be put together: a call answers whatever they are, and refuses an impossible state (17).
 #[derive(Clone, PartialEq, Eq, Debug)]
 pub struct Fields {
     /// The stashes, oldest first; they lie back to back from the front of the stash area. Past `count` the values mean nothing.

@@ -3,7 +3,7 @@
 use crate::{call, open, Areas, Called, Outcome, Refusal, State};
 use core::fmt;
 
-/// A run of one list: list, areas and state together, so that no call can be made with another's.
+/// A run of one list: list, areas and state together, so that none is taken for another's.
 ///
 /// New data goes in by [`write`](Updater::write), a piece of any length at a time.
 pub struct Updater<'a> {
@@ -20,15 +20,16 @@ impl<'a> Updater<'a> {
         Ok(Updater::resume(list, areas, state))
     }
 
-    /// Goes on where an earlier run stood: with its list, its areas as it left them, and its state. What does not fit is refused by the
-    /// first write (17).
+    /// Goes on where an earlier run stood: with its list, its areas as it left them, and its state. A state that is impossible with this
+    /// list, or other lengths, are refused by the first write (17). That the bytes are those of the earlier run nobody checks: keep them
+    /// together.
     pub fn resume(list: &'a [u8], areas: Areas<'a>, state: State) -> Updater<'a> {
         Updater { list, areas, state, taken: 0 }
     }
 
     /// Runs the list with the next piece of new data. An empty piece runs what needs no data, and says how the run stands.
     ///
-    /// Bytes past the end of the list are not taken. A refusal stays: every later write repeats it.
+    /// Bytes past the last `new` are not taken. A refusal other than 17 stays: every later write repeats it.
     ///
     /// ```
     /// use muongrabi::{digest, Areas, Outcome, Refusal, Updater, BLOCK};
@@ -84,9 +85,13 @@ impl fmt::Debug for Updater<'_> {
 
 /// New data by `std::io`, so that a file or a connection can be copied in.
 ///
+/// **Data that ends too soon is no error here.** `io::copy` and `flush` are content where the list wants more: only
+/// [`Updater::write`] of an empty piece says whether the run is [`Outcome::Done`].
+///
 /// Once the list is finished it takes no byte: `write` gives 0, and `write_all` and `io::copy` fail with `WriteZero` if there is data left.
-/// `flush` runs what needs no data, so it is wanted after the last byte too. A refusal is an error of kind `InvalidData`, whose inner error
-/// is the [`Refusal`]; where a write took bytes before its line was refused, it gives their number, and the next write or flush is the error.
+/// `flush`, like a write of no bytes, runs what needs no data: without it a list that takes none is never run. A refusal is an error of kind
+/// `InvalidData`, whose inner error is the [`Refusal`]; where a write took bytes before its line was refused, it gives their number, and the
+/// next write or flush is the error.
 ///
 /// ```
 /// use muongrabi::{Areas, Outcome, Updater};

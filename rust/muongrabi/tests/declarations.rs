@@ -33,14 +33,26 @@ fn version() {
     assert_eq!(defined("MUONGRABI_VERSION"), format!("\"{}\"", env!("CARGO_PKG_VERSION")));
 }
 
+/// The size that the header asserts of a struct.
+fn size_asserted(name: &str) -> &'static str {
+    between(HEADER, &format!("sizeof(muongrabi_{name}) == "), ")")
+}
+
 #[test]
 fn abi() {
     let number = defined("MUONGRABI_ABI");
     assert_eq!(between(LIBRARY, "const ABI: usize = ", ";"), number);
     let name = format!("muongrabi_abi_{number}");
-    for (text, declared) in [(HEADER, format!("\nsize_t {name}(void);")), (LIBRARY, format!("fn {name}()")), (BUILD, format!("\"{name}\""))] {
+    for (text, declared) in [
+        (HEADER, format!("\nsize_t {name}(void);")),
+        (EXPORTS, format!("fn {name}() -> usize;")),
+        (LIBRARY, format!("fn {name}() -> usize")),
+        (BUILD, format!("\"{name}\"")),
+    ] {
         assert!(text.contains(&declared), "{declared}");
     }
+    // The layout that goes with the number.
+    assert_eq!((number, size_asserted("state"), size_asserted("answer")), ("1", "1872", "1904"));
 }
 
 #[test]
@@ -54,7 +66,7 @@ fn limits() {
         ("MOST_STASHES", "MUONGRABI_MOST_STASHES", MOST_STASHES),
     ] {
         assert!(proved.contains(&(source, limit)), "{source}");
-        assert_eq!(defined(header), format!("{limit}u"), "{header}");
+        assert_eq!(defined(header), format!("{limit}ul"), "{header}");
     }
 }
 
@@ -96,6 +108,35 @@ fn refusal_texts() {
     let ours: Vec<&str> = (0..=Refusal::STATE_IMPOSSIBLE).map(|number| Refusal::new(number, 0).text()).collect();
     assert_eq!(texts, ours);
     assert_eq!(between(HEADER, "texts[number] : \"", "\";"), Refusal::new(usize::MAX, 0).text());
+    // A limit that a text names is the limit.
+    for (number, limit) in [(Refusal::AREA_SIZE, BLOCK), (Refusal::LIST_LENGTH, MOST_LIST), (Refusal::HEADER_LIMIT, MOST_STASHES)] {
+        assert!(ours[number].contains(&format!(" {limit} ")), "{}", ours[number]);
+    }
+}
+
+#[test]
+fn each_text_is_of_its_number() {
+    for (number, words) in [
+        (Refusal::AREA_SIZE, "not whole blocks"),
+        (Refusal::LIST_LENGTH, "list is longer"),
+        (Refusal::HEADER_FORM, "header line"),
+        (Refusal::OTHER_VERSION, "version"),
+        (Refusal::HEADER_LIMIT, "more than 64 stashes"),
+        (Refusal::LINE_FORM, "not a command"),
+        (Refusal::UNSUPPORTED, "bsdiff and imgdiff"),
+        (Refusal::PAST_IMAGE, "past the image"),
+        (Refusal::PAST_WORK, "larger than the work area"),
+        (Refusal::NOT_HELD, "is not held"),
+        (Refusal::SIZES_DIFFER, "sizes"),
+        (Refusal::MISPLACED, "place"),
+        (Refusal::HELD_ALREADY, "held already"),
+        (Refusal::NO_ROOM, "line 3"),
+        (Refusal::TOTAL_DIFFERS, "line 2"),
+        (Refusal::HASH_DIFFERS, "does not have the hash"),
+        (Refusal::STATE_IMPOSSIBLE, "state"),
+    ] {
+        assert!(Refusal::new(number, 0).text().contains(words), "{number}");
+    }
 }
 
 #[test]
@@ -124,13 +165,14 @@ fn structs() {
     }
 }
 
-/// What crosses for one parameter: a pointer, a number or a struct. A slice is a pointer and a number.
-fn crosses(kind: &str) -> &'static str {
+/// A parameter as it crosses: its name, and whether it is a pointer, a number or a struct. A slice is a pointer and a number.
+fn crosses(name: &str, kind: &str) -> String {
+    let name = name.trim().trim_end_matches("_length");
     match kind.trim() {
-        "&[u8]" | "&mut [u8]" | "&[usize]" => "pointer number ",
-        "&mut [u8; 20]" | "*const u8" | "*mut u8" | "*const usize" => "pointer ",
-        "usize" | "size_t" => "number ",
-        "State" | "muongrabi_state" => "state ",
+        "&[u8]" | "&mut [u8]" | "&[usize]" => format!("{name}* {name} "),
+        "&mut [u8; 20]" | "*const u8" | "*mut u8" | "*const usize" | "*" => format!("{name}* "),
+        "usize" | "size_t" => format!("{name} "),
+        "State" | "muongrabi_state" => format!("{name}: state "),
         other => panic!("what is {other:?}?"),
     }
 }
@@ -140,17 +182,20 @@ fn functions() {
     for (gives, name) in [("void", "digest"), ("muongrabi_state", "open"), ("muongrabi_answer", "call"), ("muongrabi_answer", "run")] {
         let of_rust = |source: &str| -> String {
             let parameters = between(source, &format!("fn muongrabi_{name}("), ")").split(',').filter(|one| !one.trim().is_empty());
-            parameters.map(|one| crosses(one.split_once(':').expect("a parameter").1)).collect()
+            let parted = parameters.map(|one| one.split_once(':').expect("a parameter"));
+            parted.map(|(name, kind)| crosses(name, kind)).collect()
         };
-        let parameters = between(HEADER, &format!("\n{gives} muongrabi_{name}("), ");");
+        let parameters = between(HEADER, &format!("\n{gives} muongrabi_{name}("), ");").split(',').map(str::trim);
         let of_header: String = parameters
-            .split(',')
-            .map(|one| match one.contains(['*', '[']) {
-                true => "pointer ",
-                false => crosses(one.trim().split(' ').next().expect("a type")),
+            .map(|one| {
+                let (kind, name) = one.rsplit_once(' ').expect("a parameter");
+                let is_pointer = name.contains(['*', '[']);
+                crosses(name.trim_start_matches('*').trim_end_matches("[20]"), if is_pointer { "*" } else { kind })
             })
             .collect();
         assert_eq!(of_rust(EXPORTS), of_header, "{name}");
-        assert_eq!(of_rust(LIBRARY), of_header, "{name}");
+        // `data` is no name for a parameter in the proved source.
+        let of_source = if name == "run" { of_rust(LIBRARY).replace("bytes", "data") } else { of_rust(LIBRARY) };
+        assert_eq!(of_source, of_header, "{name}");
     }
 }

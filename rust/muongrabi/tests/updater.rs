@@ -113,6 +113,14 @@ fn every_field_crosses_as_itself() {
     assert_eq!(call(b"3\n0\n0\n0\n", lent.areas(), b"piece", &mut state), refused);
     assert_eq!(state.fields(), fields);
     assert_eq!(lent.letters(), ["ABCDEFGH", "x", "uvw"]);
+    // What it shows of itself has every field, and of the stashes those that there can be.
+    let shown = format!("{state:?}");
+    for part in ["count: 1,", "line: 2,", "at: 3,", "into: 4,", "refusal: None", "list: 7,", "image: 8,", "stash: 9,", "work: 10 ", "blocks: 1000 "] {
+        assert!(shown.contains(part), "{part} in {shown}");
+    }
+    assert!(!shown.contains("blocks: 1001"), "{shown}");
+    fields.count = usize::MAX;
+    assert!(format!("{:?}", State::from(&fields)).contains("blocks: 1063"));
     // A refusal that is held is repeated.
     fields.refusal = Refusal::new(99, 6);
     let mut state = State::from(&fields);
@@ -190,6 +198,23 @@ mod io {
         copy(&mut std::io::empty(), &mut updater).expect("nothing to take");
         updater.flush().expect("nothing to refuse");
         assert_eq!(lent.letters()[0], "00000000");
+    }
+
+    #[test]
+    fn an_empty_write_runs_what_needs_no_data() {
+        let mut lent = Lent::new();
+        let mut updater = Updater::open(b"3\n0\n0\n0\nzero 2,0,8\n", lent.areas()).expect("a good list");
+        assert_eq!(Write::write(&mut updater, &[]).expect("nothing to refuse"), 0);
+        assert_eq!(lent.letters()[0], "00000000");
+    }
+
+    #[test]
+    fn data_that_ends_too_soon_is_no_error() {
+        let (list, mut lent) = (list(), Lent::new());
+        let mut updater = Updater::open(list.as_bytes(), lent.areas()).expect("a good list");
+        assert_eq!(copy(&mut &blocks("pq")[..5_000], &mut updater).expect("all is taken"), 5_000);
+        updater.flush().expect("nothing to refuse");
+        assert_eq!(updater.write(&[]), Outcome::More);
     }
 
     #[test]

@@ -2,9 +2,9 @@
  * muongrabi: runs an Android transfer list of version 3 over a lent image while new data arrives in pieces.
  *
  * For C99 and C++98, and later ones. Link with libmuongrabi.a: `pkg-config --cflags --libs muongrabi` after `./install PREFIX`, or
- * target/staticlib/libmuongrabi.a as it is built. The archive is for x86-64 Linux; it wants memcpy, memmove and memset of the C library,
- * some 26 KiB of stack, and nothing else. Nothing is allocated, no file is opened and no state is kept inside: everything a function works
- * on is lent by the caller, and what must be remembered between calls is the state it gives back.
+ * target/staticlib/libmuongrabi.a as it is built. The archive is for x86-64 Linux, and not yet for AArch64; it wants memcpy, memmove and
+ * memset of the C library, some 30 KiB of stack, and nothing else. Nothing is allocated, no file is opened and no state is kept inside:
+ * everything a function works on is lent by the caller, and what must be remembered between calls is the state it gives back.
  *
  *     muongrabi_state state = muongrabi_open(list, list_length, image_length, stash_length, work_length);
  *     while (there is new data, or once with none) {

@@ -5,7 +5,7 @@
 //! This crate is the safe face of a library that is proved: any bytes as list, data or state get an answer; a list opens exactly when it
 //! meets the rules, and then does what they say, in order; and however the new data is cut into pieces, what stands after the last call is
 //! what the rules give for the pieces joined. Nothing is allocated, no file is opened and nothing is kept inside: all that is worked on is
-//! lent, and what must be remembered between calls is the [`State`]. A call wants some 26 KiB of stack.
+//! lent, and what must be remembered between calls is the [`State`]. Some 30 KiB of stack are wanted.
 //!
 //! ```
 //! use muongrabi::{Areas, Outcome, Updater, BLOCK};

@@ -141,7 +141,7 @@ impl Coverage {
         if answer.outcome.number() == 17 {
             self.causes[cause(list, lengths, before)] += 1;
         } else {
-            self.within += (answer.outcome == Outcome::More && !answer.state.into.is_multiple_of(BLOCK)) as u64;
+            self.within += (answer.outcome == Outcome::More && answer.state.into % BLOCK != 0) as u64;
             self.ran(&list[before.at..answer.state.at], before);
         }
     }

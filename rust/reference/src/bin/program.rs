@@ -20,7 +20,7 @@ fn main() {
         println!("refused 1 0");
         return;
     }
-    if list.len() > BLOCK && image.len().is_multiple_of(BLOCK) {
+    if list.len() > BLOCK && image.len() % BLOCK == 0 {
         println!("refused 2 0");
         return;
     }

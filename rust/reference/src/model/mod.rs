@@ -132,105 +132,161 @@ fn impossible(list: &[u8], lengths: &Lengths, state: &State) -> bool {
     }
 }
 
-/// Puts a source together; `from` gives the image or stash block for each place.
-fn put(work: &mut [u8], area: &[u8], from: &[usize], places: &[usize]) {
-    for (block, place) in from.iter().zip(places) {
-        let bytes = area[block * BLOCK..(block + 1) * BLOCK].to_vec();
-        work[place * BLOCK..(place + 1) * BLOCK].copy_from_slice(&bytes);
+/// The stashes before the k-th have so many blocks.
+fn start_of(held: &[(Vec<u8>, u64)], k: usize) -> usize {
+    held[..k].iter().map(|stash| stash.1 as usize).sum()
+}
+
+/// Which of the stashes has this name; a line that passed its checks names held ones alone.
+fn index_of(held: &[(Vec<u8>, u64)], name: &[u8]) -> usize {
+    held.iter().position(|stash| stash.0 == name).expect("held")
+}
+
+/// Copies blocks: those of `from` in one area to those of `to` in another.
+fn put(into: &mut [u8], area: &[u8], from: &[usize], to: &[usize]) {
+    for (block, place) in from.iter().zip(to) {
+        into[place * BLOCK..(place + 1) * BLOCK].copy_from_slice(&area[block * BLOCK..(block + 1) * BLOCK]);
     }
 }
 
-pub fn call(list: &[u8], image: &mut [u8], stash: &mut [u8], work: &mut [u8], piece: &[u8], mut state: State) -> Answer {
-    if state.refusal.number != 0 {
-        return Answer { state, outcome: Outcome::Refused(state.refusal), taken: 0 };
+/// A call while it runs: what it is lent, where it stands, and what it has taken.
+struct Run<'a> {
+    image: &'a mut [u8],
+    stash: &'a mut [u8],
+    work: &'a mut [u8],
+    piece: &'a [u8],
+    state: State,
+    taken: usize,
+}
+
+impl Run<'_> {
+    fn ends(self, outcome: Outcome) -> Answer {
+        Answer { state: self.state, outcome, taken: self.taken }
     }
+
+    /// The refusal is held.
+    fn refused(mut self, number: usize) -> Answer {
+        self.state.refusal = Refusal { number, line: self.state.line };
+        let refusal = self.state.refusal;
+        self.ends(Outcome::Refused(refusal))
+    }
+
+    /// The first n blocks of the work area have this hash.
+    fn gathered(&self, n: usize, hash: &[u8]) -> bool {
+        digest(&self.work[..n * BLOCK])[..] == *hash
+    }
+
+    fn zeros(&mut self, target: &Ranges) {
+        for block in blocks(target) {
+            self.image[block * BLOCK..(block + 1) * BLOCK].fill(0);
+        }
+    }
+
+    /// Byte by byte; whether it got all of them.
+    fn new_data(&mut self, target: &Ranges) -> bool {
+        let order = blocks(target);
+        while self.state.into < order.len() * BLOCK {
+            if self.taken == self.piece.len() {
+                return false;
+            }
+            self.image[order[self.state.into / BLOCK] * BLOCK + self.state.into % BLOCK] = self.piece[self.taken];
+            self.taken += 1;
+            self.state.into += 1;
+        }
+        self.state.into = 0;
+        true
+    }
+
+    /// Puts a source together; whether it has its hash, and was then written.
+    fn move_blocks(&mut self, held: &[(Vec<u8>, u64)], hash: &[u8], target: &Ranges, n: usize, source: &Source) -> bool {
+        let all: Vec<usize> = (0..n).collect();
+        let nothing = Vec::new();
+        let parts = match source {
+            Source::Image(from) => {
+                put(self.work, self.image, &blocks(from), &all);
+                &nothing
+            }
+            Source::Both(from, places, parts) => {
+                put(self.work, self.image, &blocks(from), &blocks(places));
+                parts
+            }
+            Source::Stashes(parts) => parts,
+        };
+        for (name, places) in parts {
+            let k = index_of(held, name);
+            let from: Vec<usize> = (start_of(held, k)..start_of(held, k + 1)).collect();
+            put(self.work, self.stash, &from, &blocks(places));
+        }
+        if !self.gathered(n, hash) {
+            return false;
+        }
+        put(self.image, self.work, &all, &blocks(target));
+        true
+    }
+
+    /// Whether the source has its hash, and was then held.
+    fn stash_blocks(&mut self, held: &[(Vec<u8>, u64)], hash: &[u8], source: &Ranges) -> bool {
+        let n = size(source) as usize;
+        let all: Vec<usize> = (0..n).collect();
+        put(self.work, self.image, &blocks(source), &all);
+        if !self.gathered(n, hash) {
+            return false;
+        }
+        let after: Vec<usize> = all.iter().map(|k| k + start_of(held, held.len())).collect();
+        put(self.stash, self.work, &all, &after);
+        self.state.hashes[20 * held.len()..][..20].copy_from_slice(hash);
+        self.state.sizes[held.len()] = n;
+        self.state.count += 1;
+        true
+    }
+
+    /// The younger stashes move down over the one that goes.
+    fn free(&mut self, held: &[(Vec<u8>, u64)], hash: &[u8]) {
+        let j = index_of(held, hash);
+        let kept = self.stash[start_of(held, j + 1) * BLOCK..start_of(held, held.len()) * BLOCK].to_vec();
+        self.stash[start_of(held, j) * BLOCK..][..kept.len()].copy_from_slice(&kept);
+        for (k, younger) in held[j + 1..].iter().enumerate() {
+            self.state.hashes[20 * (j + k)..][..20].copy_from_slice(&younger.0);
+            self.state.sizes[j + k] = younger.1 as usize;
+        }
+        self.state.count -= 1;
+    }
+}
+
+pub fn call(list: &[u8], image: &mut [u8], stash: &mut [u8], work: &mut [u8], piece: &[u8], state: State) -> Answer {
     let lengths = Lengths { list: list.len(), image: image.len(), stash: stash.len(), work: work.len() };
+    let mut run = Run { image, stash, work, piece, state, taken: 0 };
+    if state.refusal.number != 0 {
+        return run.ends(Outcome::Refused(state.refusal));
+    }
     if impossible(list, &lengths, &state) {
-        return Answer { state, outcome: Outcome::Refused(Refusal { number: 17, line: 0 }), taken: 0 };
+        return run.ends(Outcome::Refused(Refusal { number: 17, line: 0 }));
     }
     let rules = rules(list, &lengths).expect("possible");
-    let mut taken = 0;
     for line in list[state.at..].split_inclusive(|c| *c == b'\n') {
-        let held = stashes(&state);
-        let start_of = |k: usize| held[..k].iter().map(|stash| stash.1 as usize).sum::<usize>();
-        let index_of = |name: &Vec<u8>| held.iter().position(|stash| stash.0 == *name).expect("held");
-        let mut number = 0;
-        match judge(line, &rules, &held) {
-            Err(refused) => number = refused,
+        let held = stashes(&run.state);
+        let has_hash = match judge(line, &rules, &held) {
+            Err(number) => return run.refused(number),
             Ok(Command::Zeros(target)) => {
-                for block in blocks(&target) {
-                    image[block * BLOCK..(block + 1) * BLOCK].fill(0);
-                }
+                run.zeros(&target);
+                true
             }
-            Ok(Command::New(target)) => {
-                let order = blocks(&target);
-                while state.into < order.len() * BLOCK {
-                    if taken == piece.len() {
-                        return Answer { state, outcome: Outcome::More, taken };
-                    }
-                    image[order[state.into / BLOCK] * BLOCK + state.into % BLOCK] = piece[taken];
-                    taken += 1;
-                    state.into += 1;
-                }
-                state.into = 0;
-            }
-            Ok(Command::Move { hash, target, n, source }) => {
-                let n = n as usize;
-                let all: Vec<usize> = (0..n).collect();
-                let nothing = Vec::new();
-                let parts = match &source {
-                    Source::Image(from) => {
-                        put(work, image, &blocks(from), &all);
-                        &nothing
-                    }
-                    Source::Both(from, places, parts) => {
-                        put(work, image, &blocks(from), &blocks(places));
-                        parts
-                    }
-                    Source::Stashes(parts) => parts,
-                };
-                for (name, places) in parts {
-                    let k = index_of(name);
-                    let from: Vec<usize> = (start_of(k)..start_of(k + 1)).collect();
-                    put(work, stash, &from, &blocks(places));
-                }
-                if digest(&work[..n * BLOCK])[..] == hash[..] {
-                    put(image, work, &all, &blocks(&target));
-                } else {
-                    number = 16;
-                }
-            }
-            Ok(Command::Stash { hash, source }) => {
-                let n = size(&source) as usize;
-                let all: Vec<usize> = (0..n).collect();
-                put(work, image, &blocks(&source), &all);
-                if digest(&work[..n * BLOCK])[..] == hash[..] {
-                    let after: Vec<usize> = all.iter().map(|k| k + start_of(held.len())).collect();
-                    put(stash, work, &all, &after);
-                    state.hashes[20 * held.len()..][..20].copy_from_slice(&hash);
-                    state.sizes[held.len()] = n;
-                    state.count += 1;
-                } else {
-                    number = 16;
-                }
-            }
+            Ok(Command::New(target)) => match run.new_data(&target) {
+                true => true,
+                false => return run.ends(Outcome::More),
+            },
+            Ok(Command::Move { hash, target, n, source }) => run.move_blocks(&held, &hash, &target, n as usize, &source),
+            Ok(Command::Stash { hash, source }) => run.stash_blocks(&held, &hash, &source),
             Ok(Command::Free { hash }) => {
-                let j = index_of(&hash);
-                let kept = stash[start_of(j + 1) * BLOCK..start_of(held.len()) * BLOCK].to_vec();
-                stash[start_of(j) * BLOCK..][..kept.len()].copy_from_slice(&kept);
-                for (k, younger) in held[j + 1..].iter().enumerate() {
-                    state.hashes[20 * (j + k)..][..20].copy_from_slice(&younger.0);
-                    state.sizes[j + k] = younger.1 as usize;
-                }
-                state.count -= 1;
+                run.free(&held, &hash);
+                true
             }
+        };
+        if !has_hash {
+            return run.refused(16);
         }
-        if number != 0 {
-            state.refusal = Refusal { number, line: state.line };
-            return Answer { state, outcome: Outcome::Refused(state.refusal), taken };
-        }
-        state.at += line.len();
-        state.line += 1;
+        run.state.at += line.len();
+        run.state.line += 1;
     }
-    Answer { state, outcome: Outcome::Done, taken }
+    run.ends(Outcome::Done)
 }

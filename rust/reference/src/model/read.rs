@@ -121,7 +121,7 @@ pub(super) struct Rules {
 pub(super) fn rules(list: &[u8], lengths: &Lengths) -> Result<Rules, Refusal> {
     let block = BLOCK as u64;
     for (bytes, most) in [(lengths.image, 1_048_576u64), (lengths.stash, 4_096), (lengths.work, 4_096)] {
-        if !(bytes as u64).is_multiple_of(block) || bytes as u64 > most * block {
+        if bytes as u64 % block != 0 || bytes as u64 > most * block {
             return Err(Refusal { number: 1, line: 0 });
         }
     }

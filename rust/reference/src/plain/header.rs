@@ -33,7 +33,7 @@ pub fn header(list: &[u8], lengths: &Lengths) -> Result<Header, Refusal> {
 }
 
 fn good_area(bytes: usize, most: usize) -> bool {
-    bytes.is_multiple_of(BLOCK) && bytes / BLOCK <= most
+    bytes % BLOCK == 0 && bytes / BLOCK <= most
 }
 
 /// The version and the other lines; or 3.

@@ -33,7 +33,7 @@
 extern "C" {
 #endif
 
-#define MUONGRABI_VERSION "0.1.0"
+#define MUONGRABI_VERSION "0.2.0"
 #define MUONGRABI_ABI 1   /* another number whenever the layout of a struct or the parameters of a function below change */
 
 /* Limits, 64 bits wide, so that blocks times bytes do not wrap. */
@@ -69,7 +69,7 @@ enum muongrabi_refusal_number {
     MUONGRABI_REFUSAL_MISPLACED = 12,        /* a place at N or above, or taken twice */
     MUONGRABI_REFUSAL_HELD_ALREADY = 13,     /* the hash to be stashed is held already */
     MUONGRABI_REFUSAL_NO_ROOM = 14,          /* holding it would pass line 3 or line 4 */
-    MUONGRABI_REFUSAL_TOTAL_DIFFERS = 15,    /* all new targets together differ from line 2; line 2 */
+    MUONGRABI_REFUSAL_TOTAL_DIFFERS = 15,    /* all new, zero and move targets together differ from line 2; line 2 */
     MUONGRABI_REFUSAL_HASH_DIFFERS = 16,     /* in a run: a source's SHA-1 is not the one in the list */
     MUONGRABI_REFUSAL_STATE_IMPOSSIBLE = 17  /* in a call: state impossible, or the length of list, image or area changed; line 0 */
 };
@@ -100,7 +100,7 @@ static inline const char *muongrabi_refusal_text(size_t number)
         "a place lies past the end of the source, or is taken twice",
         "a stash of this hash is held already",
         "the stash would pass the number of stashes (line 3) or of blocks (line 4)",
-        "the targets of all new lines together do not have as many blocks as line 2 says",
+        "the targets of all new, zero and move lines together do not have as many blocks as line 2 says",
         "the source does not have the hash that the list gives",
         "the state does not fit the list and the areas of this call",
     };

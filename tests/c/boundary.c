@@ -129,7 +129,7 @@ static size_t make_list(void)
     name_of("BA", ba);
     name_of("pHq", phq);
     return (size_t)snprintf(list, sizeof list,
-        "3\n3\n2\n3\nstash %s 2,0,2\nstash %s 2,7,8\nnew 4,0,1,6,7\nmove %s 2,1,4 3 2,2,5\nmove %s 2,4,6 2 - %s:4,1,2,0,1\n"
+        "3\n12\n2\n3\nstash %s 2,0,2\nstash %s 2,7,8\nnew 4,0,1,6,7\nmove %s 2,1,4 3 2,2,5\nmove %s 2,4,6 2 - %s:4,1,2,0,1\n"
         "move %s 4,7,8,2,4 3 4,0,1,6,7 4,0,1,2,3 %s:2,1,2\nfree %s\nzero 4,1,2,8,8\nerase 2,6,7\nnew 2,5,6\n",
         ab, h, cde, ba, ab, phq, h, ab);
 }

@@ -30,12 +30,14 @@ use Rattle.transfer_list.specs.declared.header.HeaderRead.the-variants.{
 abbrev pub termsOf : Lengths → Header → Terms
 termsOf lengths h = record { image = lengths .image / blockBytes; work = lengths .work / blockBytes; stashes = h .stashes; blocks = h .blocks }
 
--- the blocks of a command's target that line 2 counts: those of `new`
-abbrev pub countedBlocks : Command → ℕ
-countedBlocks (command.New set) = set .blocks
-countedBlocks (command.Zero set) = 0
-countedBlocks (command.Erase set) = 0
-countedBlocks (command.Move target n source) = 0
+-- Document 02, R-1: line 2 must equal the total target size of `new`, `zero` and `move`; `erase` is not counted. What a command adds to
+-- that total: the size of R, a block named twice counted twice
+unfoldable pub countedBlocks : Command → ℕ
+countedBlocks (command.New target) = target .blocks
+countedBlocks (command.Zero target) = target .blocks
+countedBlocks (command.Move target n source) = target .blocks
+-- the others add nothing
+countedBlocks (command.Erase target) = 0
 countedBlocks (command.Stash set) = 0
 countedBlocks command.Free = 0
 countedBlocks command.Unsupported = 0

@@ -24,7 +24,7 @@ const VERSION_3: u32 = 3;
 // The number of the first command line.
 pub(crate) const FIRST_LINE: usize = 5;
 
-// The version, the blocks of new data, the most stashes and the most blocks held at once, and where the command lines start.
+// The version, the blocks that line 2 counts, the most stashes and the most blocks held at once, and where the command lines start.
 pub struct Header {
     pub version: u32,
     pub total: u32,

@@ -40,19 +40,19 @@ pub fn terms_of(lengths: Lengths, h: Header) -> Terms
     }
 }
 
-// The blocks of a command that line 2 counts.
+// The blocks of a command's target that line 2 counts.
 fn counted_blocks(command: Command) -> usize
     ensures { λ r. ⌜ r ≡ countedBlocks command ⌝ }
 {
     match command {
-        Command::New(set) => set.blocks,
-        Command::Zero(_) => 0,
-        Command::Erase(_) => 0,
+        Command::New(target) => target.blocks,
+        Command::Zero(target) => target.blocks,
         Command::Move {
-            target: _,
+            target,
             length: _,
             source: _,
-        } => 0,
+        } => target.blocks,
+        Command::Erase(_) => 0,
         Command::Stash(_) => 0,
         Command::Free => 0,
         Command::Unsupported => 0,

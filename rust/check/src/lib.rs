@@ -6,6 +6,7 @@ pub mod generate;
 mod guard;
 mod hex;
 pub mod library;
+pub mod record;
 
 pub use hex::hex;
 pub use library::Library;

@@ -49,29 +49,29 @@ fn digests() {
 #[test]
 fn samples() {
     // 1 to 3: what a set names.
-    assert_eq!(after("3\n0\n0\n0\nzero 2,3,5\n", b"").0, "ABC00FGH");
+    assert_eq!(after("3\n2\n0\n0\nzero 2,3,5\n", b"").0, "ABC00FGH");
     let list = format!("3\n0\n1\n3\nstash {} 4,6,7,1,3\n", name("GBC"));
     assert_eq!(after(&list, b"").1, "GBC");
-    assert_eq!(refusal("3\n0\n0\n0\nzero 6,247114,247116,247150,247155,247156,247156\n"), (8, 5));
+    assert_eq!(refusal("3\n7\n0\n0\nzero 6,247114,247116,247150,247155,247156,247156\n"), (8, 5));
     // 4: ill formed.
     for set in ["2,5,3", "3,1,2,3", "0", "4,1,2", "2,01,2"] {
         assert_eq!(refusal(&format!("3\n0\n0\n0\nzero {set}\n")), (6, 5), "{set}");
     }
     // 5 and 6.
-    assert_eq!(after("3\n0\n0\n0\nzero 2,7,8\n", b"").0, "ABCDEFG0");
-    assert_eq!(refusal("3\n0\n0\n0\nzero 2,7,9\n"), (8, 5));
+    assert_eq!(after("3\n1\n0\n0\nzero 2,7,8\n", b"").0, "ABCDEFG0");
+    assert_eq!(refusal("3\n2\n0\n0\nzero 2,7,9\n"), (8, 5));
     assert_eq!(after("3\n0\n0\n0\nzero 2,8,8\n", b"").0, "ABCDEFGH");
     assert_eq!(refusal("3\n0\n0\n0\nzero 2,9,9\n"), (8, 5));
     // 7: a target over its own source.
-    let list = format!("3\n0\n0\n0\nmove {} 2,1,4 3 2,0,3\n", name("ABC"));
+    let list = format!("3\n3\n0\n0\nmove {} 2,1,4 3 2,0,3\n", name("ABC"));
     let (image, _, work, answer) = after(&list, b"");
     assert_eq!((image.as_str(), work.as_str(), said(&answer)), ("AABCEFGH", "ABC", (Done, 0)));
     // 8 and 9: an image part and a stash, spread.
-    let put = format!("3\n0\n1\n1\nstash {} 2,3,4\nmove {} 2,5,8 3 2,0,2 4,0,1,2,3 {}:2", name("D"), name("ADB"), name("D"));
+    let put = format!("3\n3\n1\n1\nstash {} 2,3,4\nmove {} 2,5,8 3 2,0,2 4,0,1,2,3 {}:2", name("D"), name("ADB"), name("D"));
     assert_eq!(after(&format!("{put},1,2\n"), b"").0, "ABCDEADB");
     assert_eq!(refusal(&format!("{put},0,1\n")), (12, 6));
     // 10.
-    assert_eq!(after("3\n0\n0\n0\nzero 4,0,1,7,8\n", b"").0, "0BCDEFG0");
+    assert_eq!(after("3\n2\n0\n0\nzero 4,0,1,7,8\n", b"").0, "0BCDEFG0");
     // 11 and 12: new data.
     for on in all() {
         let mut lent = Lent::new("3\n2\n0\n0\nnew 4,2,3,6,7\n");
@@ -89,7 +89,50 @@ fn samples() {
     assert_eq!((stash.as_str(), answer.state.count, answer.state.sizes[0]), ("BCC", 1, 2));
     // 14 and 15.
     assert_eq!(said(&after("3\n0\n0\n0\n", b"abc").3), (Done, 0));
-    assert_eq!(refusal("3\n2\n0\n0\nnew 2,0,3\n"), (15, 2));
+    for (total, want) in [(2, (15, 2)), (3, (0, 0)), (4, (15, 2))] {
+        assert_eq!(refusal(&format!("3\n{total}\n0\n0\nnew 2,0,2\nzero 2,4,5\n")), want, "{total}");
+    }
+}
+
+#[test]
+fn what_line_2_counts() {
+    let h = name("D");
+    // The lines, and the one number that opens them.
+    let lines: Vec<(String, u64)> = vec![
+        ("new 2,0,2\nerase 2,4,5\n".into(), 2),
+        ("new 2,0,3\n".into(), 3),
+        ("zero 2,0,3\n".into(), 3),
+        ("erase 2,0,3\n".into(), 0),
+        (format!("move {h} 2,5,7 2 2,0,2\n"), 2),
+        (format!("stash {h} 2,0,1\nmove {h} 2,5,6 1 - {h}:2,0,1\n"), 1),
+        (format!("stash {h} 2,0,1\nmove {h} 2,5,8 3 2,0,2 4,0,1,2,3 {h}:2,1,2\nfree {h}\n"), 3),
+        (format!("stash {h} 2,0,1\nfree {h}\n"), 0),
+        // A block counts as often as it is named, in one line or in several.
+        ("zero 4,0,1,0,1\n".into(), 2),
+        ("zero 2,3,3\n".into(), 0),
+        (format!("new 2,0,1\nzero 2,0,1\nmove {h} 2,0,1 1 2,0,1\n"), 3),
+    ];
+    for (lines, total) in lines {
+        for line_2 in 0..=5 {
+            let want = if line_2 == total { (0, 0) } else { (15, 2) };
+            assert_eq!(refusal(&format!("3\n{line_2}\n1\n1\n{lines}")), want, "{line_2} {lines:?}");
+        }
+    }
+    // Totals that pass 32 bits, for the largest image.
+    let whole = "zero 2,0,1048576\n".repeat(4_095);
+    for (total, lines, want) in [
+        (u32::MAX, format!("{whole}zero 2,0,1048575\n"), 0),
+        (0, format!("{whole}zero 2,0,1048576\n"), 15),
+        (u32::MAX, format!("{whole}zero 2,0,1048576\n"), 15),
+        (5, format!("{whole}new 2,0,1048576\nzero 2,0,5\n"), 15),
+        (0, format!("zero 8192{}\n", ",0,1048576".repeat(4_096)), 15),
+        (0, whole.replace("zero", "erase"), 0),
+    ] {
+        let list = format!("3\n{total}\n0\n0\n{lines}");
+        for on in all() {
+            assert_eq!(on.open(list.as_bytes(), 1_048_576 * BLOCK, 0, 0).refusal.number, want, "{total}");
+        }
+    }
 }
 
 #[test]
@@ -156,20 +199,25 @@ fn command_lines() {
         (format!("stash {h} 2,0,2\nstash {h} 2,0,3\n"), 13),
         (format!("stash {h} 2,0,0\nfree {h}\nfree {h}\n"), 10),
         (format!("stash {h} 2,0,0\nfree {h}\nstash {h} 2,0,1\n"), 0),
-        (format!("stash {h} 2,0,1\nmove {h} 2,0,2 2 - {h}:2,0,1 {h}:2,1,2\n"), 0),
         (format!("stash {h} 2,0,1\nmove {h} 2,0,2 2 - {h}:2,0,1 {h}:2,0,1\n"), 12),
         (format!("stash {h} 2,0,1\nmove {h} 2,0,2 2 - {h}:2,0,2\n"), 11),
         (format!("stash {h} 2,0,1\nmove {h} 2,0,1 1 - {h}:2,1,2\n"), 12),
-        (format!("stash {h} 2,0,1\nmove {h} 2,0,1 1 - {h}:4,0,1,4294967295,4294967295\n"), 0),
         (format!("stash {h} 2,0,1\nmove {h} 2,0,1 1 - {h}:2,0,4294967295\n"), 11),
         (format!("stash {h} 2,0,1\nmove {h} 2,0,1 1 - {h}:2,0,2 {}:2,0,1\n", h.replace('d', "e")), 10),
         (format!("stash {h} 2,0,1\nmove {h} 2,0,2 2 2,0,1 2,0,2 {h}:2,1,2\n"), 11),
-        (format!("stash {h} 2,0,1\nmove {h} 2,0,2 2 2,0,1 2,0,1 {h}:2,1,2\n"), 0),
     ];
     for (text, want) in cases {
         let lines = text.matches('\n').count() + !text.ends_with('\n') as usize;
         let line = if want == 0 { 0 } else { 4 + lines };
         assert_eq!(refusal(&format!("3\n0\n1\n2\n{text}")), (want, line), "{text:?}");
+    }
+    // Good neighbours, with what they write.
+    for (total, text) in [
+        (2, format!("stash {h} 2,0,1\nmove {h} 2,0,2 2 - {h}:2,0,1 {h}:2,1,2\n")),
+        (1, format!("stash {h} 2,0,1\nmove {h} 2,0,1 1 - {h}:4,0,1,4294967295,4294967295\n")),
+        (2, format!("stash {h} 2,0,1\nmove {h} 2,0,2 2 2,0,1 2,0,1 {h}:2,1,2\n")),
+    ] {
+        assert_eq!(refusal(&format!("3\n{total}\n1\n2\n{text}")), (0, 0), "{text:?}");
     }
 }
 

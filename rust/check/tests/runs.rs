@@ -10,7 +10,7 @@ use reference::{digest, Lengths, Refusal, State, BLOCK};
 #[test]
 fn pieces_of_any_length() {
     let data = blocks("pq");
-    let list = format!("3\n2\n0\n0\nnew 4,6,7,0,1\nmove {} 2,1,2 1 2,6,7\n", name("p"));
+    let list = format!("3\n3\n0\n0\nnew 4,6,7,0,1\nmove {} 2,1,2 1 2,6,7\n", name("p"));
     for on in all() {
         for cuts in [vec![], vec![0], vec![1; 20], vec![4_095, 1, 1, 4_095], vec![4_096, 4_096, 0, 0], vec![8_192, 7], vec![0, 8_191, 0, 1, 0]] {
             let mut lent = Lent::new(&list);
@@ -34,7 +34,7 @@ fn pieces_of_any_length() {
 
 #[test]
 fn a_hash_that_differs() {
-    let list = format!("3\n1\n1\n1\nnew 2,0,1\nstash {} 2,2,3\nzero 2,7,8\n", name("D"));
+    let list = format!("3\n2\n1\n1\nnew 2,0,1\nstash {} 2,2,3\nzero 2,7,8\n", name("D"));
     let (image, stash, work, answer) = after(&list, &blocks("n"));
     assert_eq!((image.as_str(), stash.as_str(), work.as_str()), ("nBCDEFGH", "xyz", "Cvw"));
     assert_eq!(said(&answer), (refused(16, 6), 4_096));
@@ -55,7 +55,7 @@ fn a_hash_that_differs() {
 
 #[test]
 fn impossible_states() {
-    let list = "3\n2\n3\n2\nnew 2,0,2\nzero 2,0,1\n";
+    let list = "3\n3\n3\n2\nnew 2,0,2\nzero 2,0,1\n";
     let edit = |f: &dyn Fn(&mut State)| {
         let mut got = Vec::new();
         for on in all() {
@@ -119,7 +119,7 @@ fn impossible_states() {
 
 #[test]
 fn a_list_altered_after_opening() {
-    let good = "3\n0\n1\n1\nzero 2,0,1\nzero 2,1,2\n";
+    let good = "3\n2\n1\n1\nzero 2,0,1\nzero 2,1,2\n";
     for (line, want) in [("zero 2,1,9", 8), ("zero 2,2,1", 6), ("bsdiff 1,2", 7), ("Zero 2,1,2", 6)] {
         for on in all() {
             let mut lent = Lent::new(good);
@@ -148,7 +148,7 @@ fn sixty_four_stashes() {
     // 64 one-block stashes of different bytes; the 65th is refused, freed room serves again.
     let image: Vec<u8> = (0..70u8).flat_map(|k| [k; BLOCK]).collect();
     let named: Vec<String> = (0..70).map(|k| hex(&digest(&image[k * BLOCK..][..BLOCK]))).collect();
-    let mut list = "3\n0\n64\n64\n".to_string();
+    let mut list = "3\n1\n64\n64\n".to_string();
     for (k, name) in named.iter().enumerate().take(64) {
         list += &format!("stash {name} 2,{k},{}\n", k + 1);
     }
@@ -175,20 +175,20 @@ fn sources_of_several_stashes() {
     let (a, bc, d) = (name("A"), name("BC"), name("D"));
     // Each list first holds A, then B C, then D: the later two are not at the front.
     let held = format!("stash {a} 2,0,1\nstash {bc} 2,1,3\n");
-    for (area, lines, image, work) in [
+    for (total, area, lines, image, work) in [
         // Form two with one stash that is not at the front, its blocks in the other order.
-        (3, format!("move {} 2,5,7 2 - {bc}:4,1,2,0,1\n", name("CB")), "ABCDECBH", "CBD"),
+        (2, 3, format!("move {} 2,5,7 2 - {bc}:4,1,2,0,1\n", name("CB")), "ABCDECBH", "CBD"),
         // Form two with two, the younger first, their places mixed.
-        (3, format!("move {} 2,4,7 3 - {bc}:4,2,3,0,1 {a}:2,1,2\n", name("CAB")), "ABCDCABH", "CAB"),
+        (3, 3, format!("move {} 2,4,7 3 - {bc}:4,2,3,0,1 {a}:2,1,2\n", name("CAB")), "ABCDCABH", "CAB"),
         // One stash twice.
-        (3, format!("move {} 2,4,6 2 - {a}:2,1,2 {a}:2,0,1\n", name("AA")), "ABCDAAGH", "AAD"),
+        (2, 3, format!("move {} 2,4,6 2 - {a}:2,1,2 {a}:2,0,1\n", name("AA")), "ABCDAAGH", "AAD"),
         // Form three with two, the image's block between them.
-        (4, format!("stash {d} 2,3,4\nmove {} 2,5,8 3 2,7,8 2,1,2 {d}:2,0,1 {a}:2,2,3\n", name("DHA")), "ABCDEDHA", "DHA"),
+        (3, 4, format!("stash {d} 2,3,4\nmove {} 2,5,8 3 2,7,8 2,1,2 {d}:2,0,1 {a}:2,2,3\n", name("DHA")), "ABCDEDHA", "DHA"),
         // After the oldest is freed, what was behind it is at the front.
-        (4, format!("stash {d} 2,3,4\nfree {a}\nmove {} 2,0,3 3 - {d}:2,0,1 {bc}:2,1,3\n", name("DBC")), "DBCDEFGH", "DBC"),
+        (3, 4, format!("stash {d} 2,3,4\nfree {a}\nmove {} 2,0,3 3 - {d}:2,0,1 {bc}:2,1,3\n", name("DBC")), "DBCDEFGH", "DBC"),
     ] {
         for on in all() {
-            let mut lent = Lent::new(&format!("3\n0\n3\n{area}\n{held}{lines}"));
+            let mut lent = Lent::new(&format!("3\n{total}\n3\n{area}\n{held}{lines}"));
             lent.stash = blocks(&"xyzt"[..area]);
             lent.work = blocks("BCD");
             let answer = lent.all(on, b"");

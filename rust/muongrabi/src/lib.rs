@@ -11,7 +11,7 @@
 //! use muongrabi::{Areas, Outcome, Updater, BLOCK};
 //!
 //! // Two blocks of new data, then a block of zeros.
-//! let list = b"3\n2\n0\n0\nnew 4,0,1,3,4\nzero 2,1,2\n";
+//! let list = b"3\n3\n0\n0\nnew 4,0,1,3,4\nzero 2,1,2\n";
 //! let mut image = vec![b'-'; 4 * BLOCK];
 //!
 //! let areas = Areas { image: &mut image, stash: &mut [], work: &mut [] };
@@ -32,7 +32,7 @@
 //! use muongrabi::{open, Lengths, Refusal, BLOCK};
 //!
 //! let lengths = Lengths { image: 8 * BLOCK, stash: 0, work: 0 };
-//! let refusal = open(b"3\n0\n0\n0\nzero 2,7,9\n", lengths).unwrap_err();
+//! let refusal = open(b"3\n2\n0\n0\nzero 2,7,9\n", lengths).unwrap_err();
 //! assert_eq!(refusal.number(), Refusal::PAST_IMAGE);
 //! assert_eq!(refusal.to_string(), "line 5: a range of the target or source ends past the image (refusal 8)");
 //! ```

@@ -41,7 +41,7 @@ impl Refusal {
     pub const HELD_ALREADY: usize = 13;
     /// Holding the stash would pass line 3 or line 4.
     pub const NO_ROOM: usize = 14;
-    /// All `new` targets together differ from line 2.
+    /// All `new`, `zero` and `move` targets together differ from line 2.
     pub const TOTAL_DIFFERS: usize = 15;
     /// In a run: a source's SHA-1 is not the one in the list.
     pub const HASH_DIFFERS: usize = 16;
@@ -83,7 +83,7 @@ impl Refusal {
             Refusal::MISPLACED => "a place lies past the end of the source, or is taken twice",
             Refusal::HELD_ALREADY => "a stash of this hash is held already",
             Refusal::NO_ROOM => "the stash would pass the number of stashes (line 3) or of blocks (line 4)",
-            Refusal::TOTAL_DIFFERS => "the targets of all new lines together do not have as many blocks as line 2 says",
+            Refusal::TOTAL_DIFFERS => "the targets of all new, zero and move lines together do not have as many blocks as line 2 says",
             Refusal::HASH_DIFFERS => "the source does not have the hash that the list gives",
             Refusal::STATE_IMPOSSIBLE => "the state does not fit the list and the areas of this call",
             _ => "a number that no rule gives",

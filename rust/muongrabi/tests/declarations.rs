@@ -131,7 +131,7 @@ fn each_text_is_of_its_number() {
         (Refusal::MISPLACED, "place"),
         (Refusal::HELD_ALREADY, "held already"),
         (Refusal::NO_ROOM, "line 3"),
-        (Refusal::TOTAL_DIFFERS, "line 2"),
+        (Refusal::TOTAL_DIFFERS, "new, zero and move lines together"),
         (Refusal::HASH_DIFFERS, "does not have the hash"),
         (Refusal::STATE_IMPOSSIBLE, "state"),
     ] {

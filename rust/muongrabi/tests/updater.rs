@@ -20,7 +20,7 @@ fn name(letters: &str) -> String {
 /// A stash, new data, a move over its own source, and what was stashed put back elsewhere.
 fn list() -> String {
     let (a, bcd) = (name("A"), name("BCD"));
-    format!("3\n2\n1\n1\nstash {a} 2,0,1\nnew 4,0,1,7,8\nmove {bcd} 2,2,5 3 2,1,4\nmove {a} 2,6,7 1 - {a}:2,0,1\nfree {a}\nzero 2,1,2\n")
+    format!("3\n7\n1\n1\nstash {a} 2,0,1\nnew 4,0,1,7,8\nmove {bcd} 2,2,5 3 2,1,4\nmove {a} 2,6,7 1 - {a}:2,0,1\nfree {a}\nzero 2,1,2\n")
 }
 
 const AFTER: &str = "p0BCDFAq";
@@ -130,7 +130,7 @@ fn every_field_crosses_as_itself() {
 
 #[test]
 fn refusals_stop_a_run_and_stay() {
-    let list = format!("3\n1\n0\n0\nnew 2,0,1\nmove {} 2,1,2 1 2,2,3\n", name("A"));
+    let list = format!("3\n2\n0\n0\nnew 2,0,1\nmove {} 2,1,2 1 2,2,3\n", name("A"));
     let mut lent = Lent::new();
     let refused = Outcome::Refused(Refusal::new(Refusal::HASH_DIFFERS, 6));
     let mut updater = Updater::open(list.as_bytes(), lent.areas()).expect("a good list");
@@ -141,9 +141,9 @@ fn refusals_stop_a_run_and_stay() {
     assert_eq!(lent.letters(), ["pBCDEFGH", "x", "Cvw"]);
     // A refused opening changes nothing.
     let mut lent = Lent::new();
-    let opened = Updater::open(b"3\n1\n0\n0\nnew 2,0,1\nzero 2,0,9\n", lent.areas()).map(|_| ());
+    let opened = Updater::open(b"3\n10\n0\n0\nnew 2,0,1\nzero 2,0,9\n", lent.areas()).map(|_| ());
     assert_eq!(opened, Err(Refusal::new(Refusal::PAST_IMAGE, 6)));
-    let (called, state) = run(b"3\n1\n0\n0\nnew 2,0,1\nzero 2,0,9\n", lent.areas(), &blocks("p"), &[]);
+    let (called, state) = run(b"3\n10\n0\n0\nnew 2,0,1\nzero 2,0,9\n", lent.areas(), &blocks("p"), &[]);
     assert_eq!(called, Called { outcome: Outcome::Refused(Refusal::new(8, 6)), taken: 0 });
     assert_eq!((state.refusal(), state.line(), state.fields().list), (Some(Refusal::new(8, 6)), 0, 0));
     assert_eq!(lent.letters(), ["ABCDEFGH", "x", "uvw"]);
@@ -194,7 +194,7 @@ mod io {
     #[test]
     fn flush_runs_what_needs_no_data() {
         let mut lent = Lent::new();
-        let mut updater = Updater::open(b"3\n0\n0\n0\nzero 2,0,8\n", lent.areas()).expect("a good list");
+        let mut updater = Updater::open(b"3\n8\n0\n0\nzero 2,0,8\n", lent.areas()).expect("a good list");
         copy(&mut std::io::empty(), &mut updater).expect("nothing to take");
         updater.flush().expect("nothing to refuse");
         assert_eq!(lent.letters()[0], "00000000");
@@ -203,7 +203,7 @@ mod io {
     #[test]
     fn an_empty_write_runs_what_needs_no_data() {
         let mut lent = Lent::new();
-        let mut updater = Updater::open(b"3\n0\n0\n0\nzero 2,0,8\n", lent.areas()).expect("a good list");
+        let mut updater = Updater::open(b"3\n8\n0\n0\nzero 2,0,8\n", lent.areas()).expect("a good list");
         assert_eq!(Write::write(&mut updater, &[]).expect("nothing to refuse"), 0);
         assert_eq!(lent.letters()[0], "00000000");
     }
@@ -219,7 +219,7 @@ mod io {
 
     #[test]
     fn a_refusal_is_an_error_after_the_bytes_before_it() {
-        let list = format!("3\n1\n0\n0\nnew 2,0,1\nmove {} 2,1,2 1 2,2,3\n", name("A"));
+        let list = format!("3\n2\n0\n0\nnew 2,0,1\nmove {} 2,1,2 1 2,2,3\n", name("A"));
         let mut lent = Lent::new();
         let mut updater = Updater::open(list.as_bytes(), lent.areas()).expect("a good list");
         assert_eq!(Write::write(&mut updater, &blocks("pq")).expect("the new is taken"), BLOCK);

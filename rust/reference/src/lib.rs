@@ -1,4 +1,4 @@
-//! Document 01 written twice, apart from the proved code: [`plain`] in plain loops, [`model`] slowly and by other means. The limits, the
+//! Document 01, with R-1 of document 02, written twice, apart from the proved code: [`plain`] in plain loops, [`model`] slowly and by other means. The limits, the
 //! types and SHA-1 are all that the two share.
 
 #![forbid(unsafe_code)]

@@ -189,7 +189,7 @@ fn moves<S: Side>() {
     let start = some_bytes(blocks * BLOCK);
     let mut rng = Rng::new(3);
     let mut image = start.clone();
-    let mut list = "3\n0\n0\n0\n".to_string();
+    let mut list = format!("3\n{}\n0\n0\n", MOVES * PART);
     for _ in 0..MOVES {
         let (from, to) = (rng.below(blocks - PART), rng.below(blocks - PART));
         let hash = digest(&image[from * BLOCK..(from + PART) * BLOCK]);
@@ -217,17 +217,23 @@ fn move_times<S: Side>(list: &[u8], start: &[u8], mut areas: Areas) -> Duration 
     })
 }
 
-/// Lines up to the greatest length of a list.
-fn fill_list(header: &str, mut next: impl FnMut(usize) -> String) -> Vec<u8> {
-    let mut list = header.to_string();
+/// The bytes of the longest header: the version, and three numbers of ten digits.
+const LONGEST_HEADER: usize = 2 + 3 * 11;
+
+/// A list of the greatest length, with these numbers on lines 3 and 4 and these first lines; each of the others comes with the blocks that
+/// line 2 counts of it.
+fn fill_list(stashes: usize, held: usize, first: &str, mut next: impl FnMut(usize) -> (usize, String)) -> Vec<u8> {
+    let mut lines = first.to_string();
+    let mut total = 0;
     for k in 0.. {
-        let line = next(k);
-        if list.len() + line.len() > MOST_LIST {
+        let (blocks, line) = next(k);
+        if LONGEST_HEADER + lines.len() + line.len() > MOST_LIST {
             break;
         }
-        list += &line;
+        lines += &line;
+        total += blocks;
     }
-    list.into_bytes()
+    format!("3\n{total}\n{stashes}\n{held}\n{lines}").into_bytes()
 }
 
 /// An opening that is short is repeated, so that a run takes a millisecond at least.
@@ -252,26 +258,23 @@ fn openings<S: Side>() {
     let name = |k: usize| hex(&digest(&k.to_le_bytes()));
 
     // What builders write: moves, some stashes with the moves that use them, erased and zeroed ranges.
-    let ordinary = fill_list("3\n0\n64\n4096\n", |k| {
+    let ordinary = fill_list(64, 4_096, "", |k| {
         let n = rng.between(1, 60);
         let (to, from) = (rng.below(image - n), rng.below(image - n));
         let h = name(k);
         match k % 10 {
-            0 => format!("stash {h} 4,{from},{},{to},{to}\nmove {h} 2,{to},{} {n} - {h}:2,0,{n}\nfree {h}\n", from + n, to + n),
-            1 => format!(
-                "stash {h} 2,{from},{}\nmove {h} 2,{to},{} {} 2,{to},{} 2,0,1 {h}:2,1,{}\nfree {h}\n",
-                from + n,
-                to + n + 1,
-                n + 1,
-                to + 1,
-                n + 1
-            ),
+            0 => (n, format!("stash {h} 4,{from},{},{to},{to}\nmove {h} 2,{to},{} {n} - {h}:2,0,{n}\nfree {h}\n", from + n, to + n)),
+            1 => {
+                let more = n + 1;
+                let both = format!("move {h} 2,{to},{} {more} 2,{to},{} 2,0,1 {h}:2,1,{more}", to + more, to + 1);
+                (more, format!("stash {h} 2,{from},{}\n{both}\nfree {h}\n", from + n))
+            }
             2 => {
                 let pairs: Vec<String> = (0..20).map(|j| format!("{},{}", j * 25_000 + k % 100, j * 25_000 + 200)).collect();
-                format!("erase 40,{}\n", pairs.join(","))
+                (0, format!("erase 40,{}\n", pairs.join(",")))
             }
-            3 => format!("zero 2,{to},{}\n", to + n),
-            _ => format!("move {h} 2,{to},{} {n} 2,{from},{}\n", to + n, from + n),
+            3 => (n, format!("zero 2,{to},{}\n", to + n)),
+            _ => (n, format!("move {h} 2,{to},{} {n} 2,{from},{}\n", to + n, from + n)),
         }
     });
     opening::<S>("4 MiB of ordinary lines", &ordinary, areas, 0);
@@ -281,28 +284,28 @@ fn openings<S: Side>() {
     let lines = format!("3\n0\n0\n0\n{}", "new 2,0,0\n".repeat(400_000));
     opening::<S>("400,000 lines of ten bytes", lines.as_bytes(), areas, 0);
     let names: Vec<String> = (0..1_000).map(name).collect();
-    let hashes = fill_list("3\n0\n1\n0\n", |k| {
+    let hashes = fill_list(1, 0, "", |k| {
         let h = &names[k % names.len()];
-        format!("stash {h} 2,0,0\nfree {h}\n")
+        (0, format!("stash {h} 2,0,0\nfree {h}\n"))
     });
     opening::<S>("a list full of hashes", &hashes, areas, 0);
 
     let h = name(0);
-    let wide = fill_list(&format!("3\n0\n1\n1\nstash {h} 2,0,1\n"), |_| format!("move {h} 2,0,2 2 2,0,1 2,0,4294967295 {h}:2,0,4294967295\n"));
+    let one = format!("stash {h} 2,0,1\n");
+    let wide = fill_list(1, 1, &one, |_| (2, format!("move {h} 2,0,2 2 2,0,1 2,0,4294967295 {h}:2,0,4294967295\n")));
     opening::<S>("L of 2,0,4294967295 in every line", &wide, areas, 11);
-    let far = fill_list(&format!("3\n0\n1\n1\nstash {h} 2,0,1\n"), |_| {
-        format!("move {h} 2,0,2 2 2,0,1 4,0,1,4294967295,4294967295 {h}:4,1,2,4294967295,4294967295\n")
-    });
+    let far = fill_list(1, 1, &one, |_| (2, format!("move {h} 2,0,2 2 2,0,1 4,0,1,4294967295,4294967295 {h}:4,1,2,4294967295,4294967295\n")));
     opening::<S>("empty ranges at 4294967295 in every L", &far, areas, 0);
 
     let stashes: String = (0..64).map(|k| format!("stash {} 2,{k},{}\n", name(k), k + 1)).collect();
     let parts: String = (0..64).map(|k| format!(" {}:2,{k},{}", name(63 - k), k + 1)).collect();
-    let all = fill_list(&format!("3\n0\n64\n64\n{stashes}"), |_| format!("move {h} 2,0,64 64 -{parts}\n"));
+    let all = fill_list(64, 64, &stashes, |_| (64, format!("move {h} 2,0,64 64 -{parts}\n")));
     opening::<S>("64 stashes, every move naming all", &all, areas, 0);
-    let places = fill_list(&format!("3\n0\n1\n4096\nstash {h} 2,0,4096\n"), |_| format!("move {h} 2,0,4096 4096 - {h}:2,0,4096\n"));
+    let large = format!("stash {h} 2,0,4096\n");
+    let places = fill_list(1, 4_096, &large, |_| (4_096, format!("move {h} 2,0,4096 4096 - {h}:2,0,4096\n")));
     opening::<S>("4,096 places in every line", &places, areas, 0);
     let single: String = (0..4_096).map(|k| format!(",{k},{}", k + 1)).collect();
-    let ragged = fill_list(&format!("3\n0\n1\n4096\nstash {h} 2,0,4096\n"), |_| format!("move {h} 2,0,4096 4096 - {h}:8192{single}\n"));
+    let ragged = fill_list(1, 4_096, &large, |_| (4_096, format!("move {h} 2,0,4096 4096 - {h}:8192{single}\n")));
     opening::<S>("4,096 places, each a range of its own", &ragged, areas, 0);
 }
 

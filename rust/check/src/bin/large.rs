@@ -110,7 +110,7 @@ fn far_end(other: &dyn Implementation, fast: bool) -> Result<(), String> {
         (&b"3\n1048576\n0\n0\nnew 2,0,1048576\n"[..], whole - 7, whole),
         (b"3\n2097152\n0\n0\nnew 4,0,1048576,0,1048576\n", 2 * whole - 7, whole),
         (b"3\n2097152\n0\n0\nnew 4,0,1048576,0,1048576\n", whole + 3, whole),
-        (b"3\n1\n0\n0\nzero 2,1048575,1048576\nnew 2,1048575,1048576\n", 0, whole),
+        (b"3\n2\n0\n0\nzero 2,1048575,1048576\nnew 2,1048575,1048576\n", 0, whole),
         (b"3\n0\n0\n0\nzero 2,1048576,1048576\n", 0, whole),
         (b"3\n0\n0\n0\n", 0, whole + BLOCK),
     ] {

@@ -1,6 +1,6 @@
 //! Commands and their text.
 
-use super::sets::Set;
+use super::sets::{size, Set};
 use crate::hex;
 use reference::Hash;
 
@@ -82,6 +82,14 @@ impl Command {
             Command::Raw(bytes) => out.extend_from_slice(bytes),
         }
         out.push(b'\n');
+    }
+
+    /// The size of its target, if it has one.
+    pub(super) fn target_size(&self) -> u64 {
+        match self {
+            Command::Zero(target) | Command::Erase(target) | Command::New(target) | Command::Move { target, .. } => size(target),
+            Command::Stash { .. } | Command::Free { .. } | Command::Raw(_) => 0,
+        }
     }
 
     /// The range sets, those of R and S first; how many of them those are.

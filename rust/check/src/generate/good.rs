@@ -91,7 +91,7 @@ impl World {
                 break;
             }
         }
-        world.header = [3, world.data.len() as u64, most.0 as u64, most.1 as u64];
+        world.header = [3, world.total(), most.0 as u64, most.1 as u64];
         if rng.percent(30) {
             world.header[2] = rng.pick(&[most.0 as u64 + 1, 64]).min(64);
             world.header[3] = world.stash as u64;

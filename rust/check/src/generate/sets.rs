@@ -5,6 +5,11 @@ use super::Rng;
 /// The pairs of a range set, as written.
 pub type Set = Vec<(u32, u32)>;
 
+/// Its blocks, one named twice counted twice. A spoiled set may have a range that ends before it starts; it has none.
+pub(super) fn size(set: &Set) -> u64 {
+    set.iter().map(|(start, end)| end.saturating_sub(*start) as u64).sum()
+}
+
 /// A set of k blocks, in any order and with repeats, within so many blocks; sometimes with empty ranges.
 pub(super) fn any_set(rng: &mut Rng, mut k: usize, bound: usize) -> Set {
     let mut set = Set::new();

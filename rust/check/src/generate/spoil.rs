@@ -7,7 +7,7 @@ use super::{Rng, World};
 #[derive(Clone, Copy)]
 enum Fault {
     Version,
-    NewTotal,
+    Total,
     MostStashes,
     MostBlocks,
     PastImage,
@@ -27,7 +27,7 @@ enum Fault {
 /// Each as often as it is to be tried.
 const FAULTS: [Fault; 24] = [
     Fault::Version,
-    Fault::NewTotal,
+    Fault::Total,
     Fault::MostStashes,
     Fault::MostBlocks,
     Fault::PastImage,
@@ -70,18 +70,26 @@ fn names_stashes(command: &Command) -> bool {
 }
 
 impl World {
-    /// Makes one thing wrong, mostly so that a certain number applies.
+    /// Makes one thing wrong, mostly so that a certain number applies. Line 2 mostly follows what the lines now write.
     pub fn spoil(&mut self, rng: &mut Rng) {
+        let (total, follows) = (self.header[1], self.header[1] == self.total());
+        self.one_fault(rng);
+        if follows && self.header[1] == total && self.total() <= u32::MAX as u64 && rng.percent(75) {
+            self.header[1] = self.total();
+        }
+    }
+
+    fn one_fault(&mut self, rng: &mut Rng) {
         if rng.one_in(6) {
             return self.spoil_move(rng);
         }
         let fault = if self.commands.iter().any(spreads_stashes) && rng.one_in(4) { Fault::Places } else { rng.pick(&FAULTS) };
         let count = self.commands.len();
         let at = rng.below(count);
-        let [_, new, stashes, blocks] = self.header;
+        let [_, _, stashes, blocks] = self.header;
         match fault {
             Fault::Version => self.header[0] = rng.pick(&[0, 1, 2, 4, 33, 4_294_967_295]),
-            Fault::NewTotal => self.header[1] = rng.pick(&[new + 1, new.saturating_sub(1), 0, 4_294_967_295]),
+            Fault::Total => self.other_total(rng),
             Fault::MostStashes => self.header[2] = rng.pick(&[stashes.saturating_sub(1), 0, 63, 64, 65, 66, 4_294_967_295]),
             Fault::MostBlocks => {
                 let area = self.stash as u64;
@@ -116,6 +124,17 @@ impl World {
             Fault::Stash => self.one_more_stash(rng, at),
             Fault::Hash => self.wrong_hash(rng),
         }
+    }
+
+    /// Another number on line 2: beside the right one, at a border, or counted by another rule.
+    fn other_total(&mut self, rng: &mut Rng) {
+        let total = self.header[1];
+        let new = self.targets(|command| matches!(command, Command::New(_)));
+        let zero = self.targets(|command| matches!(command, Command::Zero(_)));
+        let erased = self.targets(|command| matches!(command, Command::Erase(_)));
+        let moved = self.targets(is_move);
+        let less = |blocks: u64| total.saturating_sub(blocks);
+        self.header[1] = rng.pick(&[total + 1, less(1), 0, 4_294_967_295, new, total + erased, less(zero), less(moved), less(new)]);
     }
 
     /// The first command of this kind from there on, all around.

@@ -30,6 +30,16 @@ impl Sizes {
 }
 
 impl World {
+    /// The sizes of the targets of all commands of some kind.
+    pub(super) fn targets(&self, kind: impl Fn(&Command) -> bool) -> u64 {
+        self.commands.iter().filter(|command| kind(command)).map(Command::target_size).sum()
+    }
+
+    /// What line 2 must be: the targets of `new`, `zero` and `move`.
+    pub fn total(&self) -> u64 {
+        self.targets(|command| matches!(command, Command::New(_) | Command::Zero(_) | Command::Move { .. }))
+    }
+
     /// The list's text.
     pub fn list(&self) -> Vec<u8> {
         let mut out = Vec::new();

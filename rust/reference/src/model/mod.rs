@@ -21,7 +21,7 @@ fn faults(command: &Command, rules: &Rules, held: &[(Vec<u8>, u64)]) -> Vec<usiz
     };
     let size_of = |name: &Vec<u8>| held.iter().find(|stash| stash.0 == *name).map(|stash| stash.1);
     match command {
-        Command::Zeros(target) | Command::New(target) => fault(8, past(target, rules.image)),
+        Command::Zero(target) | Command::Erase(target) | Command::New(target) => fault(8, past(target, rules.image)),
         Command::Free { hash } => fault(10, size_of(hash).is_none()),
         Command::Stash { hash, source } => {
             fault(14, held.len() as u64 + 1 > rules.stashes);
@@ -79,16 +79,16 @@ fn judge(line: &[u8], rules: &Rules, held: &[(Vec<u8>, u64)]) -> Result<Command,
 fn opening(list: &[u8], lengths: &Lengths) -> Result<usize, Refusal> {
     let rules = rules(list, lengths)?;
     let mut held: Vec<(Vec<u8>, u64)> = Vec::new();
-    let mut new = 0;
+    let mut written: Vec<u64> = Vec::new();
     for (k, line) in list[rules.after..].split_inclusive(|c| *c == b'\n').enumerate() {
         match judge(line, &rules, &held).map_err(|number| Refusal { number, line: k + 5 })? {
-            Command::New(target) => new += size(&target),
+            Command::New(target) | Command::Zero(target) | Command::Move { target, .. } => written.push(size(&target)),
+            Command::Erase(_) => {}
             Command::Stash { hash, source } => held.push((hash, size(&source))),
             Command::Free { hash } => held.retain(|stash| stash.0 != hash),
-            _ => {}
         }
     }
-    if new != rules.new {
+    if written.iter().sum::<u64>() != rules.total {
         return Err(Refusal { number: 15, line: 2 });
     }
     Ok(rules.after)
@@ -267,7 +267,7 @@ pub fn call(list: &[u8], image: &mut [u8], stash: &mut [u8], work: &mut [u8], pi
         let held = stashes(&run.state);
         let has_hash = match judge(line, &rules, &held) {
             Err(number) => return run.refused(number),
-            Ok(Command::Zeros(target)) => {
+            Ok(Command::Zero(target) | Command::Erase(target)) => {
                 run.zeros(&target);
                 true
             }

@@ -11,7 +11,8 @@ pub(super) enum Source {
 }
 
 pub(super) enum Command {
-    Zeros(Ranges),
+    Zero(Ranges),
+    Erase(Ranges),
     New(Ranges),
     Move { hash: Vec<u8>, target: Ranges, n: u64, source: Source },
     Stash { hash: Vec<u8>, source: Ranges },
@@ -65,7 +66,8 @@ pub(super) fn decode(line: &[u8]) -> Result<Command, usize> {
 
 fn fields_of(fields: &[&[u8]]) -> Option<Command> {
     match fields {
-        [b"zero" | b"erase", set] => Some(Command::Zeros(ranges(set)?)),
+        [b"zero", set] => Some(Command::Zero(ranges(set)?)),
+        [b"erase", set] => Some(Command::Erase(ranges(set)?)),
         [b"new", set] => Some(Command::New(ranges(set)?)),
         [b"free", name] => Some(Command::Free { hash: hash(name)? }),
         [b"stash", name, set] => Some(Command::Stash { hash: hash(name)?, source: ranges(set)? }),
@@ -109,7 +111,7 @@ fn header(list: &[u8]) -> Result<(Vec<u64>, usize), Refusal> {
 }
 
 pub(super) struct Rules {
-    pub(super) new: u64,
+    pub(super) total: u64,
     pub(super) stashes: u64,
     pub(super) held: u64,
     pub(super) image: u64,
@@ -139,5 +141,5 @@ pub(super) fn rules(list: &[u8], lengths: &Lengths) -> Result<Rules, Refusal> {
         return Err(Refusal { number: 5, line: 4 });
     }
     let (image, work) = (lengths.image as u64 / block, lengths.work as u64 / block);
-    Ok(Rules { new: numbers[1], stashes: numbers[2], held: numbers[3], image, work, after })
+    Ok(Rules { total: numbers[1], stashes: numbers[2], held: numbers[3], image, work, after })
 }

@@ -96,7 +96,7 @@ fn run_lines(list: &[u8], header: &Header, areas: &mut Areas, piece: &[u8], mut 
 /// Runs a checked command: true when the line is finished, false when it needs another byte.
 fn run_command(list: &[u8], areas: &mut Areas, piece: &[u8], state: &mut State, taken: &mut usize, command: &Command) -> Result<bool, usize> {
     match command {
-        Command::Zeros(target) => {
+        Command::Zero(target) | Command::Erase(target) => {
             for (start, end) in target.pairs(list) {
                 areas.image[start * BLOCK..end * BLOCK].fill(0);
             }

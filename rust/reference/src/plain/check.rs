@@ -10,7 +10,7 @@ pub(super) fn check(list: &[u8], header: &Header, lengths: &Lengths, held: &Stat
     let image = (lengths.image / BLOCK) as u64;
     let work = (lengths.work / BLOCK) as u64;
     match command {
-        Command::Zeros(target) | Command::New(target) => {
+        Command::Zero(target) | Command::Erase(target) | Command::New(target) => {
             if target.end > image {
                 return Err(8);
             }

@@ -16,7 +16,8 @@ pub(super) struct Move {
 }
 
 pub(super) enum Command {
-    Zeros(Set),
+    Zero(Set),
+    Erase(Set),
     New(Set),
     Move(Move),
     Stash(Hash, Set),
@@ -66,17 +67,18 @@ pub(super) fn decode(list: &[u8], at: usize) -> Result<(Command, usize), usize> 
 
 fn command(reader: &mut Reader) -> Option<Command> {
     let text = &reader.text[reader.at..];
-    for (word, which) in [(&b"zero"[..], 0), (b"erase", 0), (b"new", 1), (b"move", 2), (b"stash", 3), (b"free", 4)] {
+    for (word, which) in [(&b"zero"[..], 0), (b"erase", 1), (b"new", 2), (b"move", 3), (b"stash", 4), (b"free", 5)] {
         if !word_is(text, word) {
             continue;
         }
         reader.at += word.len();
         reader.byte(b' ')?;
         let command = match which {
-            0 => Command::Zeros(reader.set()?),
-            1 => Command::New(reader.set()?),
-            2 => Command::Move(move_line(reader)?),
-            3 => {
+            0 => Command::Zero(reader.set()?),
+            1 => Command::Erase(reader.set()?),
+            2 => Command::New(reader.set()?),
+            3 => Command::Move(move_line(reader)?),
+            4 => {
                 let hash = reader.hash()?;
                 reader.byte(b' ')?;
                 Command::Stash(hash, reader.set()?)

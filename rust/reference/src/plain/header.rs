@@ -5,7 +5,7 @@ use crate::{Lengths, Refusal, BLOCK, MOST_AREA, MOST_IMAGE, MOST_LIST, MOST_STAS
 
 /// Lines 2 to 4, and where the first command line starts.
 pub struct Header {
-    pub new: u64,
+    pub total: u64,
     pub stashes: u64,
     pub blocks: u64,
     pub after: usize,
@@ -47,6 +47,6 @@ fn read(list: &[u8]) -> Result<(u64, Header), Refusal> {
             _ => return Err(Refusal { number: 3, line: k + 1 }),
         }
     }
-    let [version, new, stashes, blocks] = numbers;
-    Ok((version, Header { new, stashes, blocks, after: reader.at }))
+    let [version, total, stashes, blocks] = numbers;
+    Ok((version, Header { total, stashes, blocks, after: reader.at }))
 }

@@ -1,7 +1,7 @@
 //! Opening.
 
 use super::check::check;
-use super::command::{decode, Command};
+use super::command::{decode, Command, Move};
 use super::header;
 use crate::{Lengths, Refusal, State};
 
@@ -17,7 +17,8 @@ pub fn open(list: &[u8], image: usize, stash: usize, work: usize) -> State {
 fn opening(list: &[u8], lengths: &Lengths) -> Result<usize, Refusal> {
     let header = header(list, lengths)?;
     let mut held = State::ZERO;
-    let mut new = 0u64;
+    // 64 bits: of a list of 4 MiB the sets have fewer than 2^20 ranges of fewer than 2^32 blocks.
+    let mut total = 0u64;
     let mut at = header.after;
     let mut line = 5;
     while at < list.len() {
@@ -25,19 +26,19 @@ fn opening(list: &[u8], lengths: &Lengths) -> Result<usize, Refusal> {
         let (command, next) = decode(list, at).map_err(refuse)?;
         check(list, &header, lengths, &held, &command).map_err(refuse)?;
         match command {
-            Command::New(target) => new += target.blocks,
+            Command::New(target) | Command::Zero(target) | Command::Move(Move { target, .. }) => total += target.blocks,
             Command::Stash(hash, source) => held.hold(&hash, source.blocks as usize),
             Command::Free(hash) => {
                 if let Some(j) = held.find(&hash) {
                     held.drop_stash(j);
                 }
             }
-            Command::Zeros(_) | Command::Move(_) => {}
+            Command::Erase(_) => {}
         }
         at = next;
         line += 1;
     }
-    if new != header.new {
+    if total != header.total {
         return Err(Refusal { number: 15, line: 2 });
     }
     Ok(header.after)

@@ -1,0 +1,91 @@
+//! Cases made apart from the project, through the library and both implementations of the reference: openings, and sequences of calls with
+//! everything that stands after each.
+//! usage: tests/unpack CASES | cases
+
+use check::record::{Read, Record};
+use check::{hex, Implementation, Library, Model, Plain};
+use reference::{Refusal, State};
+use std::fmt::Debug;
+use std::io::Read as _;
+
+fn main() {
+    let mut text = String::new();
+    if std::env::args().len() > 1 || std::io::stdin().read_to_string(&mut text).is_err() {
+        eprintln!("usage: tests/unpack CASES | cases");
+        std::process::exit(2);
+    }
+    let all: [(&str, &dyn Implementation); 3] = [("library", &Library), ("plain", &Plain), ("model", &Model)];
+    let (mut passed, mut failed) = (0, 0);
+    for case in Record::all(&text) {
+        for (name, on) in all {
+            match differs(&case, on) {
+                Ok(()) => passed += 1,
+                Err(difference) => {
+                    failed += 1;
+                    println!("{}, {name}: {difference}", case.text("name").unwrap_or("a case without a name"));
+                }
+            }
+        }
+    }
+    println!("{passed} passed, {failed} failed");
+    // No case at all is a fault too.
+    std::process::exit((failed > 0 || passed == 0) as i32);
+}
+
+fn differs(case: &Record, on: &dyn Implementation) -> Read<()> {
+    match case.text("kind")? {
+        "open" => opening(case, on),
+        "seq" => sequence(case, on),
+        other => Err(format!("{other} is no kind of case")),
+    }
+}
+
+fn same<T: PartialEq + Debug>(what: &str, got: T, expected: T) -> Read<()> {
+    if got == expected {
+        return Ok(());
+    }
+    Err(format!("{what} is {got:?}, not {expected:?}"))
+}
+
+/// What a state holds past its stashes is left free.
+fn named(mut state: State) -> State {
+    state.sizes.iter_mut().skip(state.count).for_each(|size| *size = 0);
+    state.hashes.iter_mut().skip(state.count.saturating_mul(20)).for_each(|byte| *byte = 0);
+    state
+}
+
+fn opening(case: &Record, on: &dyn Implementation) -> Read<()> {
+    let list = case.bytes("list")?;
+    let state = on.open(&list, case.number("image_len")?, case.number("stash_len")?, case.number("work_len")?);
+    if case.text("expect") == Ok("ok") {
+        return same("the refusal", state.refusal, Refusal { number: 0, line: 0 });
+    }
+    same("a refused opening's state", state, State { refusal: case.refusal("expect", 0)?, ..State::ZERO })
+}
+
+fn sequence(case: &Record, on: &dyn Implementation) -> Read<()> {
+    let (list, new) = (case.bytes("list")?, case.bytes("new")?);
+    let (mut image, mut stash, mut work) = (case.bytes("image")?, case.bytes("stash")?, case.bytes("work")?);
+    let mut state = on.open(&list, image.len(), stash.len(), work.len());
+    same("the opening's state", state, case.state("state")?)?;
+    let mut rest = &new[..];
+    let mut cuts = case.row("cuts")?;
+    for step in case.row("steps")? {
+        let cut: usize = case.number(&cuts.next().ok_or("more steps than cuts")?)?;
+        let (piece, after) = rest.split_at(cut.min(rest.len()));
+        rest = after;
+        let of = |name: &str| format!("{step}.{name}");
+        let answer = on.call(&list, &mut image, &mut stash, &mut work, piece, state);
+        state = answer.state;
+        same(&of("outcome"), answer.outcome, case.outcome(&of("outcome"))?)?;
+        same(&of("taken"), answer.taken, case.number(&of("taken"))?)?;
+        same(&of("state"), named(state), case.state(&of("state"))?)?;
+        for (name, area) in [("image", &image), ("stash", &stash), ("work", &work)] {
+            same(&of(name), hex(&on.digest(area)).as_str(), case.text(&of(name))?)?;
+        }
+    }
+    match cuts.next() {
+        Some(_) => Err("more cuts than steps".into()),
+        None => Ok(()),
+    }
+}

@@ -1,0 +1,81 @@
+//! Cases as `tests/unpack` writes them: lines `KEY VALUE`, and an empty line after each case.
+
+use reference::{Hash, Lengths, Outcome, Refusal, State};
+use std::collections::HashMap;
+use std::str::FromStr;
+
+/// One case. What it lacks, or what cannot be read as it should, is an error in words.
+pub struct Record(HashMap<String, String>);
+
+pub type Read<T> = Result<T, String>;
+
+impl Record {
+    /// All cases of a text.
+    pub fn all(text: &str) -> Vec<Record> {
+        let mut all = Vec::new();
+        let mut fields = HashMap::new();
+        for line in text.lines() {
+            match line.split_once(' ') {
+                Some((key, value)) => drop(fields.insert(key.to_string(), value.to_string())),
+                None => all.push(Record(std::mem::take(&mut fields))),
+            }
+        }
+        all
+    }
+
+    pub fn text(&self, key: &str) -> Read<&str> {
+        self.0.get(key).map(String::as_str).ok_or_else(|| format!("the case has no {key}"))
+    }
+
+    pub fn number<N: FromStr>(&self, key: &str) -> Read<N> {
+        self.text(key)?.parse().map_err(|_| format!("{key} is no number"))
+    }
+
+    pub fn bytes(&self, key: &str) -> Read<Vec<u8>> {
+        let text = self.text(key)?;
+        let byte = |k: usize| text.get(k..k + 2).and_then(|two| u8::from_str_radix(two, 16).ok());
+        (0..text.len()).step_by(2).map(byte).collect::<Option<_>>().ok_or_else(|| format!("{key} is not in hexadecimal digits"))
+    }
+
+    pub fn hash(&self, key: &str) -> Read<Hash> {
+        self.bytes(key)?.try_into().map_err(|_| format!("{key} is no hash"))
+    }
+
+    /// The keys of a row's values.
+    pub fn row(&self, key: &str) -> Read<impl Iterator<Item = String>> {
+        let (length, key) = (self.number::<usize>(&format!("{key}.length"))?, key.to_string());
+        Ok((0..length).map(move |k| format!("{key}.{k}")))
+    }
+
+    /// A number and a line, in the places from `first` on of a row.
+    pub fn refusal(&self, key: &str, first: usize) -> Read<Refusal> {
+        Ok(Refusal { number: self.number(&format!("{key}.{first}"))?, line: self.number(&format!("{key}.{}", first + 1))? })
+    }
+
+    pub fn outcome(&self, key: &str) -> Read<Outcome> {
+        match self.text(&format!("{key}.0"))? {
+            "done" => Ok(Outcome::Done),
+            "more" => Ok(Outcome::More),
+            "refused" => Ok(Outcome::Refused(self.refusal(key, 1)?)),
+            other => Err(format!("{other} is no outcome")),
+        }
+    }
+
+    /// A state, zero past its stashes.
+    pub fn state(&self, key: &str) -> Read<State> {
+        let of = |name: &str| self.number(&format!("{key}.{name}"));
+        let lengths = Lengths { list: of("list_len")?, image: of("image_len")?, stash: of("stash_len")?, work: of("work_len")? };
+        let mut state = State { at: of("pos")?, line: of("line")?, into: of("into")?, lengths, ..State::ZERO };
+        for stash in self.row(&format!("{key}.stashes"))? {
+            let k = state.count;
+            state.hashes.chunks_exact_mut(20).nth(k).ok_or("more stashes than a state has")?.copy_from_slice(&self.hash(&format!("{stash}.0"))?);
+            state.sizes[k] = self.number(&format!("{stash}.1"))?;
+            state.count += 1;
+        }
+        let refusal = format!("{key}.refusal");
+        if self.text(&refusal).is_err() {
+            state.refusal = self.refusal(&refusal, 0)?;
+        }
+        Ok(state)
+    }
+}

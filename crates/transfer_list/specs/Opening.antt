@@ -1,5 +1,5 @@
--- Document 01, "Refusal numbers": an opening checks the whole text, changes nothing, and gives number and line. An opening is accepted
--- when none of 1 to 15 applies.
+-- Document 01, "Refusal numbers", and document 02, R-1: an opening checks the whole text, changes nothing, and gives number and line. An
+-- opening is accepted when none of 1 to 15 applies.
 -- Assumes nothing: these are definitions.
 use Prim.Native.Nat.{ℕ, zero, suc, _+_, _/_}
 use mathlib.Core.List.{List, [], _∷_}
@@ -30,8 +30,8 @@ use Rattle.transfer_list.specs.declared.header.HeaderRead.the-variants.{
 abbrev pub termsOf : Lengths → Header → Terms
 termsOf lengths h = record { image = lengths .image / blockBytes; work = lengths .work / blockBytes; stashes = h .stashes; blocks = h .blocks }
 
--- Document 02, R-1: line 2 must equal the total target size of `new`, `zero` and `move`; `erase` is not counted. What a command adds to
--- that total: the size of R, a block named twice counted twice
+-- R-1: line 2 must equal the total target size of `new`, `zero` and `move`; `erase` is not counted. What a command adds to that total: the
+-- size of R, a block named twice counted twice
 unfoldable pub countedBlocks : Command → ℕ
 countedBlocks (command.New target) = target .blocks
 countedBlocks (command.Zero target) = target .blocks
@@ -43,7 +43,7 @@ countedBlocks command.Free = 0
 countedBlocks command.Unsupported = 0
 countedBlocks (command.Bad p) = 0
 
--- 15 comes last
+-- 15 comes last: the total differs from line 2
 unfoldable pub totalRefusal : Header → ℕ → Refusal
 totalRefusal h counted = firstOf (no (eqb counted (h .total)) ⇒ refusing totalDiffers 2 ∷ []) noRefusal
 

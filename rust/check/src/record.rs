@@ -72,8 +72,9 @@ impl Record {
             state.sizes[k] = self.number(&format!("{stash}.1"))?;
             state.count += 1;
         }
+        // None, or a row.
         let refusal = format!("{key}.refusal");
-        if self.text(&refusal).is_err() {
+        if self.text(&refusal) != Ok("none") {
             state.refusal = self.refusal(&refusal, 0)?;
         }
         Ok(state)

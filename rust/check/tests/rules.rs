@@ -1,4 +1,4 @@
-//! Document 01's samples, and the borders of an opening.
+//! The samples, and the borders of an opening.
 
 mod common;
 
@@ -118,7 +118,7 @@ fn what_line_2_counts() {
             assert_eq!(refusal(&format!("3\n{line_2}\n1\n1\n{lines}")), want, "{line_2} {lines:?}");
         }
     }
-    // Totals that pass 32 bits, for the largest image.
+    // Totals at 32 bits and past them, for the largest image.
     let whole = "zero 2,0,1048576\n".repeat(4_095);
     for (total, lines, want) in [
         (u32::MAX, format!("{whole}zero 2,0,1048575\n"), 0),
@@ -126,7 +126,7 @@ fn what_line_2_counts() {
         (u32::MAX, format!("{whole}zero 2,0,1048576\n"), 15),
         (5, format!("{whole}new 2,0,1048576\nzero 2,0,5\n"), 15),
         (0, format!("zero 8192{}\n", ",0,1048576".repeat(4_096)), 15),
-        (0, whole.replace("zero", "erase"), 0),
+        (0, format!("{whole}zero 2,0,1048576\n").replace("zero", "erase"), 0),
     ] {
         let list = format!("3\n{total}\n0\n0\n{lines}");
         for on in all() {
@@ -162,62 +162,58 @@ fn header_lines() {
 #[test]
 fn command_lines() {
     let h = "da39a3ee5e6b4b0d3255bfef95601890afd80709";
-    let cases: Vec<(String, usize)> = vec![
-        ("\n".into(), 6),
-        (" \n".into(), 6),
-        ("bsdiff".into(), 7),
-        ("imgdiff".into(), 7),
-        ("bsdiff\n".into(), 7),
-        ("imgdiff anything".into(), 7),
-        ("bsdiff\t1\n".into(), 6),
-        ("bsdiffx 1\n".into(), 6),
-        ("zero 2,0,0".into(), 6),
-        ("zero  2,0,0\n".into(), 6),
-        ("zero 2,0,0 \n".into(), 6),
-        ("ZERO 2,0,0\n".into(), 6),
-        ("zero\n".into(), 6),
-        ("zero 2,0,4294967296\n".into(), 6),
-        ("zero 2,0,4294967295\n".into(), 8),
-        (format!("free {h}\n"), 10),
-        (format!("free {h} \n"), 6),
-        (format!("free {}\n", h.to_uppercase()), 6),
-        (format!("free {}\n", &h[1..]), 6),
-        (format!("free {h}0\n"), 6),
-        (format!("move {h} 2,0,0 0 2,0,0\n"), 0),
-        (format!("move {h} 2,0,0 0 -\n"), 6),
-        (format!("move {h} 2,0,0 0 - \n"), 6),
-        (format!("move {h} 2,0,0 0 2,0,0 2,0,0\n"), 6),
-        (format!("move {h} 2,0,0 0 - {h}:2,0,0\n"), 10),
-        (format!("move {h} 2,0,0 0 2,9,9\n"), 8),
-        (format!("move {h} 2,0,4 4 2,0,9\n"), 8),
-        (format!("move {h} 2,0,4 4 2,0,4\n"), 9),
-        (format!("move {h} 2,0,1 1 2,0,4\n"), 9),
-        (format!("move {h} 2,0,2 1 2,0,1\n"), 11),
-        (format!("move {h} 2,0,1 1 2,0,2\n"), 11),
-        (format!("stash {h} 2,0,4\n"), 9),
-        (format!("stash {h} 2,0,3\n"), 14),
-        (format!("stash {h} 2,0,2\nstash {h} 2,0,3\n"), 13),
-        (format!("stash {h} 2,0,0\nfree {h}\nfree {h}\n"), 10),
-        (format!("stash {h} 2,0,0\nfree {h}\nstash {h} 2,0,1\n"), 0),
-        (format!("stash {h} 2,0,1\nmove {h} 2,0,2 2 - {h}:2,0,1 {h}:2,0,1\n"), 12),
-        (format!("stash {h} 2,0,1\nmove {h} 2,0,2 2 - {h}:2,0,2\n"), 11),
-        (format!("stash {h} 2,0,1\nmove {h} 2,0,1 1 - {h}:2,1,2\n"), 12),
-        (format!("stash {h} 2,0,1\nmove {h} 2,0,1 1 - {h}:2,0,4294967295\n"), 11),
-        (format!("stash {h} 2,0,1\nmove {h} 2,0,1 1 - {h}:2,0,2 {}:2,0,1\n", h.replace('d', "e")), 10),
-        (format!("stash {h} 2,0,1\nmove {h} 2,0,2 2 2,0,1 2,0,2 {h}:2,1,2\n"), 11),
+    // What line 2 would have to be, the lines, and the number that the last of them is refused with.
+    let cases: Vec<(u64, String, usize)> = vec![
+        (0, "\n".into(), 6),
+        (0, " \n".into(), 6),
+        (0, "bsdiff".into(), 7),
+        (0, "imgdiff".into(), 7),
+        (0, "bsdiff\n".into(), 7),
+        (0, "imgdiff anything".into(), 7),
+        (0, "bsdiff\t1\n".into(), 6),
+        (0, "bsdiffx 1\n".into(), 6),
+        (0, "zero 2,0,0".into(), 6),
+        (0, "zero  2,0,0\n".into(), 6),
+        (0, "zero 2,0,0 \n".into(), 6),
+        (0, "ZERO 2,0,0\n".into(), 6),
+        (0, "zero\n".into(), 6),
+        (0, "zero 2,0,4294967296\n".into(), 6),
+        (4_294_967_295, "zero 2,0,4294967295\n".into(), 8),
+        (0, format!("free {h}\n"), 10),
+        (0, format!("free {h} \n"), 6),
+        (0, format!("free {}\n", h.to_uppercase()), 6),
+        (0, format!("free {}\n", &h[1..]), 6),
+        (0, format!("free {h}0\n"), 6),
+        (0, format!("move {h} 2,0,0 0 2,0,0\n"), 0),
+        (0, format!("move {h} 2,0,0 0 -\n"), 6),
+        (0, format!("move {h} 2,0,0 0 - \n"), 6),
+        (0, format!("move {h} 2,0,0 0 2,0,0 2,0,0\n"), 6),
+        (0, format!("move {h} 2,0,0 0 - {h}:2,0,0\n"), 10),
+        (0, format!("move {h} 2,0,0 0 2,9,9\n"), 8),
+        (4, format!("move {h} 2,0,4 4 2,0,9\n"), 8),
+        (4, format!("move {h} 2,0,4 4 2,0,4\n"), 9),
+        (1, format!("move {h} 2,0,1 1 2,0,4\n"), 9),
+        (2, format!("move {h} 2,0,2 1 2,0,1\n"), 11),
+        (1, format!("move {h} 2,0,1 1 2,0,2\n"), 11),
+        (0, format!("stash {h} 2,0,4\n"), 9),
+        (0, format!("stash {h} 2,0,3\n"), 14),
+        (0, format!("stash {h} 2,0,2\nstash {h} 2,0,3\n"), 13),
+        (0, format!("stash {h} 2,0,0\nfree {h}\nfree {h}\n"), 10),
+        (0, format!("stash {h} 2,0,0\nfree {h}\nstash {h} 2,0,1\n"), 0),
+        (2, format!("stash {h} 2,0,1\nmove {h} 2,0,2 2 - {h}:2,0,1 {h}:2,0,1\n"), 12),
+        (2, format!("stash {h} 2,0,1\nmove {h} 2,0,2 2 - {h}:2,0,2\n"), 11),
+        (1, format!("stash {h} 2,0,1\nmove {h} 2,0,1 1 - {h}:2,1,2\n"), 12),
+        (1, format!("stash {h} 2,0,1\nmove {h} 2,0,1 1 - {h}:2,0,4294967295\n"), 11),
+        (1, format!("stash {h} 2,0,1\nmove {h} 2,0,1 1 - {h}:2,0,2 {}:2,0,1\n", h.replace('d', "e")), 10),
+        (2, format!("stash {h} 2,0,1\nmove {h} 2,0,2 2 2,0,1 2,0,2 {h}:2,1,2\n"), 11),
+        (2, format!("stash {h} 2,0,1\nmove {h} 2,0,2 2 - {h}:2,0,1 {h}:2,1,2\n"), 0),
+        (1, format!("stash {h} 2,0,1\nmove {h} 2,0,1 1 - {h}:4,0,1,4294967295,4294967295\n"), 0),
+        (2, format!("stash {h} 2,0,1\nmove {h} 2,0,2 2 2,0,1 2,0,1 {h}:2,1,2\n"), 0),
     ];
-    for (text, want) in cases {
+    for (total, text, want) in cases {
         let lines = text.matches('\n').count() + !text.ends_with('\n') as usize;
         let line = if want == 0 { 0 } else { 4 + lines };
-        assert_eq!(refusal(&format!("3\n0\n1\n2\n{text}")), (want, line), "{text:?}");
-    }
-    // Good neighbours, with what they write.
-    for (total, text) in [
-        (2, format!("stash {h} 2,0,1\nmove {h} 2,0,2 2 - {h}:2,0,1 {h}:2,1,2\n")),
-        (1, format!("stash {h} 2,0,1\nmove {h} 2,0,1 1 - {h}:4,0,1,4294967295,4294967295\n")),
-        (2, format!("stash {h} 2,0,1\nmove {h} 2,0,2 2 2,0,1 2,0,1 {h}:2,1,2\n")),
-    ] {
-        assert_eq!(refusal(&format!("3\n{total}\n1\n2\n{text}")), (0, 0), "{text:?}");
+        assert_eq!(refusal(&format!("3\n{total}\n1\n2\n{text}")), (want, line), "{text:?}");
     }
 }
 

@@ -84,7 +84,7 @@ impl Command {
         out.push(b'\n');
     }
 
-    /// The size of its target, if it has one.
+    /// The size of its target; 0 if it has none.
     pub(super) fn target_size(&self) -> u64 {
         match self {
             Command::Zero(target) | Command::Erase(target) | Command::New(target) | Command::Move { target, .. } => size(target),

@@ -1,4 +1,4 @@
-//! Seeded cases: good lists with everything that document 01 allows, and the ways to spoil lists, states and lengths.
+//! Seeded cases: good lists with everything that the rules allow, and the ways to spoil lists, states and lengths.
 
 mod blocks;
 mod command;

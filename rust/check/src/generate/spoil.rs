@@ -70,7 +70,7 @@ fn names_stashes(command: &Command) -> bool {
 }
 
 impl World {
-    /// Makes one thing wrong, mostly so that a certain number applies. Line 2 mostly follows what the lines now write.
+    /// Makes one thing wrong, mostly so that a certain number applies. Line 2 mostly follows what is now counted.
     pub fn spoil(&mut self, rng: &mut Rng) {
         let (total, follows) = (self.header[1], self.header[1] == self.total());
         self.one_fault(rng);

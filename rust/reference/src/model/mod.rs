@@ -1,4 +1,4 @@
-//! Document 01 a second time, slow and by other means: lines and fields are split apart, every number that applies to a line is
+//! The rules a second time, slow and by other means: lines and fields are split apart, every number that applies to a line is
 //! collected before the lowest is taken, and new data goes byte by byte. It guards the plain loops against slips.
 
 mod read;
@@ -79,16 +79,16 @@ fn judge(line: &[u8], rules: &Rules, held: &[(Vec<u8>, u64)]) -> Result<Command,
 fn opening(list: &[u8], lengths: &Lengths) -> Result<usize, Refusal> {
     let rules = rules(list, lengths)?;
     let mut held: Vec<(Vec<u8>, u64)> = Vec::new();
-    let mut written: Vec<u64> = Vec::new();
+    let mut counted: Vec<u64> = Vec::new();
     for (k, line) in list[rules.after..].split_inclusive(|c| *c == b'\n').enumerate() {
         match judge(line, &rules, &held).map_err(|number| Refusal { number, line: k + 5 })? {
-            Command::New(target) | Command::Zero(target) | Command::Move { target, .. } => written.push(size(&target)),
+            Command::New(target) | Command::Zero(target) | Command::Move { target, .. } => counted.push(size(&target)),
             Command::Erase(_) => {}
             Command::Stash { hash, source } => held.push((hash, size(&source))),
             Command::Free { hash } => held.retain(|stash| stash.0 != hash),
         }
     }
-    if written.iter().sum::<u64>() != rules.total {
+    if counted.iter().sum::<u64>() != rules.total {
         return Err(Refusal { number: 15, line: 2 });
     }
     Ok(rules.after)

@@ -1,4 +1,4 @@
-//! Document 01 in plain loops. Nothing here allocates, and nothing panics, whatever the bytes, the lengths and the state.
+//! The rules in plain loops. Nothing here allocates, and nothing panics, whatever the bytes, the lengths and the state.
 
 mod call;
 mod check;

@@ -18,7 +18,7 @@ fn main() {
     let (mut passed, mut failed) = (0, 0);
     for case in Record::all(&text) {
         for (name, on) in all {
-            match differs(&case, on) {
+            match agrees(&case, on) {
                 Ok(()) => passed += 1,
                 Err(difference) => {
                     failed += 1;
@@ -32,7 +32,8 @@ fn main() {
     std::process::exit((failed > 0 || passed == 0) as i32);
 }
 
-fn differs(case: &Record, on: &dyn Implementation) -> Read<()> {
+/// Ok, or how what the implementation does differs from what the case says.
+fn agrees(case: &Record, on: &dyn Implementation) -> Read<()> {
     match case.text("kind")? {
         "open" => opening(case, on),
         "seq" => sequence(case, on),

@@ -9,18 +9,15 @@ pub struct Record(HashMap<String, String>);
 
 pub type Read<T> = Result<T, String>;
 
+fn owned((key, value): (&str, &str)) -> (String, String) {
+    (key.to_string(), value.to_string())
+}
+
 impl Record {
-    /// All cases of a text.
+    /// All cases of a text. One that is cut short counts too, and then lacks something.
     pub fn all(text: &str) -> Vec<Record> {
-        let mut all = Vec::new();
-        let mut fields = HashMap::new();
-        for line in text.lines() {
-            match line.split_once(' ') {
-                Some((key, value)) => drop(fields.insert(key.to_string(), value.to_string())),
-                None => all.push(Record(std::mem::take(&mut fields))),
-            }
-        }
-        all
+        let cases = text.split_terminator("\n\n");
+        cases.map(|case| Record(case.lines().map(|line| line.split_once(' ').unwrap_or((line, ""))).map(owned).collect())).collect()
     }
 
     pub fn text(&self, key: &str) -> Read<&str> {

@@ -220,8 +220,8 @@ fn move_times<S: Side>(list: &[u8], start: &[u8], mut areas: Areas) -> Duration 
 /// The bytes of the longest header: the version, and three numbers of ten digits.
 const LONGEST_HEADER: usize = 2 + 3 * 11;
 
-/// A list of the greatest length, with these numbers on lines 3 and 4 and these first lines; each of the others comes with the blocks that
-/// line 2 counts of it.
+/// A list of nearly the greatest length, with these numbers on lines 3 and 4 and these first lines; each of the others comes with the blocks
+/// that line 2 counts of it.
 fn fill_list(stashes: usize, held: usize, first: &str, mut next: impl FnMut(usize) -> (usize, String)) -> Vec<u8> {
     let mut lines = first.to_string();
     let mut total = 0;

@@ -5,7 +5,7 @@ use super::Rng;
 /// The pairs of a range set, as written.
 pub type Set = Vec<(u32, u32)>;
 
-/// Its blocks, one named twice counted twice. A spoiled set may have a range that ends before it starts; it has none.
+/// Its blocks, one named twice counted twice. A range that ends before it starts, as a spoiled set may have it, has none.
 pub(super) fn size(set: &Set) -> u64 {
     set.iter().map(|(start, end)| end.saturating_sub(*start) as u64).sum()
 }

@@ -1,11 +1,13 @@
-// The updater for C and Rust: numbers, byte slices and structs laid out as in C.
+// The updater and the reader of sparse images for C and Rust: numbers, byte slices and structs laid out as in C.
 ghost use mathlib.Core.Path.{_≡_};
+ghost use lib.ListN.{length};
 ghost use Rattle.sha1.specs.Sha1.{sha1};
 ghost use Rattle.transfer_list.specs.Opening.{lengthsOf, openState};
 ghost use Rattle.updater.specs.Areas.{areasOf};
 ghost use Rattle.updater.specs.Calls.{callOf};
 ghost use Rattle.updater.specs.Steps.{configOf};
 ghost use Rattle.sequence.specs.Cuts.{runCuts};
+ghost use Rattle.sparse.specs.Loading.{loadRefusal, loadedImage};
 ghost use Rattle.muongrabi.specs.Answers.{answerOf, answeredOf, answered};
 ghost use Rattle.muongrabi.specs.Abi.{abi};
 use state::State;
@@ -106,4 +108,13 @@ pub extern "C" fn muongrabi_run(
     ensures { λ r. ⌜ answeredOf (areasOf (now (image .exit)) (now (stash .exit)) (now (work .exit))) r ≡ answered (runCuts (now (list .entry)) (areasOf (now (image .entry)) (now (stash .entry)) (now (work .entry))) (now (bytes .entry)) (now (cuts .entry))) ⌝ }
 {
     to_answer(sequence::run_pieces(list, image, stash, work, bytes, cuts))
+}
+
+// Reads a sparse file over an image, and gives the number of the refusal, 0 for none.
+#[no_mangle]
+pub extern "C" fn muongrabi_sparse_load(file: &[u8], image: &mut [u8]) -> u32
+    ensures { λ r. ⌜ r ≡ loadRefusal (now (file .entry)) (length (now (image .entry))) ⌝ }
+    ensures { λ _. ⌜ now (image .exit) ≡ loadedImage (now (file .entry)) (now (image .entry)) ⌝ }
+{
+    sparse::load(file, image) as u32
 }

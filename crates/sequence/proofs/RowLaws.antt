@@ -12,7 +12,8 @@ use Rattle.ranges.specs.Ranges.{span}
 use Rattle.ranges.specs.Walk.{AllBelow}
 use Rattle.ranges.proofs.WalkLaws.{below-head, below-tail}
 use Rattle.state.specs.Limits.{blockBytes}
-use Rattle.updater.specs.Bytes.{over, blockAt, zeroed, gathered, written, addressOf, putBytes, movedDown}
+use Rattle.copy.specs.Over.{over}
+use Rattle.updater.specs.Bytes.{blockAt, zeroed, gathered, written, addressOf, putBytes, movedDown}
 use Rattle.sequence.specs.Samples.{Block, zeros, bytesOf}
 use Rattle.updater.proofs.NewLaws.{put-bytes-append, address-in}
 

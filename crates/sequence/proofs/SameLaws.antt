@@ -22,9 +22,11 @@ use Rattle.command.specs.declared.source.Source.the-variants.{Blocks, Stashes, 
 use Rattle.rules.specs.Move.{isIn, placesOf}
 use Rattle.rules.specs.declared.Terms.{Terms}
 use Rattle.rules.proofs.RuleLaws.{SourceFits, misplaced-below}
-use Rattle.updater.specs.Bytes.{over, zeroed, gathered, written, addressOf, movedDown}
+use Rattle.copy.specs.Over.{over}
+use Rattle.copy.proofs.OverLaws.{length-over}
+use Rattle.updater.specs.Bytes.{zeroed, gathered, written, addressOf, movedDown}
 use Rattle.updater.specs.Source.{stashBytes, spread, supplied, together}
-use Rattle.updater.proofs.ByteLaws.{length-over, length-moved-down}
+use Rattle.updater.proofs.ByteLaws.{length-moved-down}
 use Rattle.sequence.specs.Footprint.{SameIn}
 
 -- ---- the same in some blocks

@@ -21,12 +21,14 @@ use Rattle.command.specs.declared.Command.{Command}
 use Rattle.command.specs.declared.Command.the-variants as command
 use Rattle.command.specs.declared.source.Source.{Source}
 use Rattle.updater.specs.Areas.{Areas, areasOf, SameLengths}
-use Rattle.updater.specs.Bytes.{over, zeroed, written, movedDown}
+use Rattle.copy.specs.Over.{over}
+use Rattle.copy.proofs.OverLaws.{length-over}
+use Rattle.updater.specs.Bytes.{zeroed, written, movedDown}
 use Rattle.updater.specs.Source.{stashStart, supplied, together, hashesTo, closedUp}
 use Rattle.updater.specs.Effect.{Effect, effectOf, verified, zeroEffect, targetWritten, moveEffect, stashWritten, stashEffect}
 use Rattle.updater.specs.Effect.{closedFound, freeEffect, effect}
 use Rattle.updater.specs.Runnable.{Keeps, InImage, MoveRuns, StashRuns, Runnable}
-use Rattle.updater.proofs.ByteLaws.{length-over, length-zeroed, length-written, length-moved-down}
+use Rattle.updater.proofs.ByteLaws.{length-zeroed, length-written, length-moved-down}
 use Rattle.updater.proofs.SourceLaws.{length-supplied, length-together}
 
 -- ---- each effect by its cases

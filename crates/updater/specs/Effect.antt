@@ -16,7 +16,8 @@ use Rattle.command.specs.declared.Command.{Command}
 use Rattle.command.specs.declared.Command.the-variants as command
 use Rattle.command.specs.declared.source.Source.{Source}
 use Rattle.updater.specs.Areas.{Areas, withImage, withStash, withWork}
-use Rattle.updater.specs.Bytes.{over, zeroed, written}
+use Rattle.copy.specs.Over.{over}
+use Rattle.updater.specs.Bytes.{zeroed, written}
 use Rattle.updater.specs.Source.{supplied, together, closedUp, hashesTo}
 
 -- the areas that a command leaves, and the number that it stops with, none where it is done

@@ -1,11 +1,12 @@
 // Bytes copied between areas, a block or more at a time.
 ghost use mathlib.Core.Path.{_≡_};
-ghost use mathlib.Core.List.{_++_};
 ghost use Prim.Native.Nat.{_+_, _*_, _≤_};
-ghost use lib.ListN.{length, take, drop, replicate};
+ghost use lib.ListN.{length, take, replicate};
 ghost use Rattle.text.specs.Choice.{pick};
 ghost use Rattle.state.specs.Limits.{blockBytes};
-ghost use Rattle.updater.specs.Bytes.{over, blockAt, movedDown};
+ghost use Rattle.copy.specs.Over.{over};
+ghost use Rattle.updater.specs.Bytes.{blockAt, movedDown};
+use copy::copy_in;
 use state::limits::BLOCK_BYTES;
 
 // Zeros over all of an area's part.
@@ -15,19 +16,6 @@ pub(crate) fn zero_all(area: &mut [u8])
     let mut i = 0;
     while i < area.len() {
         area[i] = 0;
-        i += 1;
-    }
-}
-
-// All of `from` over the front of `to`.
-pub(crate) fn copy_in(to: &mut [u8], from: &[u8])
-    requires { ⌜ length (now from) ≤ length (now to) ⌝ }
-    ensures { λ _. ⌜ now (to .exit) ≡ now (from .entry) ++ drop (length (now (from .entry))) (now (to .entry)) ⌝ }
-{
-    let n = from.len();
-    let mut i = 0;
-    while i < n {
-        to[i] = from[i];
         i += 1;
     }
 }

@@ -3,7 +3,7 @@
 use Prim.Native.Nat.{_+_, _-_}
 use native.Mathlib.Omega.{arith}
 use lib.ListN.{take, length-take, length-drop}
-use Rattle.updater.proofs.ByteLaws.{part-back}
+use Rattle.copy.proofs.OverLaws.{part-back}
 use borrow.Author.Needs.{needs}
 use Rattle.updater.proofs.areas.copy_over.Statement.{statement}
 use Rattle.updater.proofs.areas.copy_over.Tie as tie
@@ -24,7 +24,7 @@ slice-aggregate-copy-in : tie.Need-slice-aggregate-copy-in
 slice-aggregate-copy-in c = simp length-take (omega arith)
 
 copy-in-requires : tie.Need-copy-in-requires
-copy-in-requires c κs = simp (length-take, length-drop) (omega arith)
+copy-in-requires c κs = search needs
 
 same-length : tie.Need-same-length
 same-length c = search needs

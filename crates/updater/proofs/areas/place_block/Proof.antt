@@ -7,7 +7,8 @@ use lib.ListN.{length, length-take, length-drop}
 use denote.Ref.{now}
 use Rattle.text.specs.Choice.{pick}
 use Rattle.updater.specs.Bytes.{blockAt}
-use Rattle.updater.proofs.ByteLaws.{part-back, length-block}
+use Rattle.copy.proofs.OverLaws.{part-back}
+use Rattle.updater.proofs.ByteLaws.{length-block}
 use borrow.Author.Needs.{needs}
 use Rattle.state.specs.Limits.{blockBytes}
 use Rattle.updater.proofs.areas.place_block.Statement.{statement}
@@ -29,13 +30,7 @@ part-copy-in-end : tie.Need-part-copy-in-end
 part-copy-in-end c = search needs
 
 copy-in-requires : tie.Need-copy-in-requires
-copy-in-requires c κs =
-    let b = c .before in
-    let s = b .before .before .before .before in
-    let a = s .args in
-    let e : length (now (b .source-block .result)) ≡ blockBytes =
-    ap length (b .source-block .ensures) ∙ length-block (pick (a .stashed) (a .stash .now) (a .image .now)) (a .k) (s .pre .0) in
-    simp (length-take, length-drop) (omega arith)
+copy-in-requires c κs = search needs
 
 same-length : tie.Need-same-length
 same-length c = search needs

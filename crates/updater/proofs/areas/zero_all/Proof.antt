@@ -7,7 +7,7 @@ use native.Mathlib.Omega.{arith}
 use native.Mathlib.Numerals.{add-one}
 use lib.ListN.{length, take, drop, replicate, length-set, length-replicate, getD-replicate}
 use lib.Seq.{take-all, drop-length}
-use Rattle.updater.proofs.ByteLaws.{front-more}
+use Rattle.copy.proofs.OverLaws.{front-more}
 use Rattle.updater.proofs.areas.zero_all.Statement.{statement}
 use Rattle.updater.proofs.areas.zero_all.Tie as tie
 

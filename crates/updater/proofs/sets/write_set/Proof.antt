@@ -11,7 +11,8 @@ use lib.Seq.{take-all}
 use Rattle.ranges.specs.Walk.{blocksAt, remaining, AllBelow}
 use Rattle.ranges.proofs.WalkLaws.{walk-start, walk-done, walk-block}
 use Rattle.state.specs.Limits.{blockBytes}
-use Rattle.updater.specs.Bytes.{over, written}
+use Rattle.copy.specs.Over.{over}
+use Rattle.updater.specs.Bytes.{written}
 use Rattle.updater.proofs.ByteLaws.{below-next, written-done, written-next}
 use Rattle.updater.proofs.sets.write_set.Statement.{statement}
 use Rattle.updater.proofs.sets.write_set.Tie as tie

@@ -10,8 +10,10 @@ use mathlib.Core.List.{List, _∷_, _++_}
 use Rattle.ranges.specs.Walk.{blocksAt, remaining, AllBelow}
 use Rattle.ranges.proofs.WalkLaws.{walk-start, walk-done, walk-block}
 use Rattle.state.specs.Limits.{blockBytes}
-use Rattle.updater.specs.Bytes.{over, zeroed}
-use Rattle.updater.proofs.ByteLaws.{length-over, below-next, zeroed-done, zeroed-next}
+use Rattle.copy.specs.Over.{over}
+use Rattle.copy.proofs.OverLaws.{length-over}
+use Rattle.updater.specs.Bytes.{zeroed}
+use Rattle.updater.proofs.ByteLaws.{below-next, zeroed-done, zeroed-next}
 use Rattle.updater.proofs.sets.zero_set.Statement.{statement}
 use Rattle.updater.proofs.sets.zero_set.Tie as tie
 

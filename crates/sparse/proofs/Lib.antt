@@ -1,0 +1,4 @@
+pub mod ChunkLaws
+pub mod ChunksLaws
+pub mod LoadingLaws
+pub mod NumberLaws

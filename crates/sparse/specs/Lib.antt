@@ -1,0 +1,4 @@
+pub mod Header
+pub mod Chunk
+pub mod Chunks
+pub mod Loading

@@ -1,5 +1,6 @@
 /*
- * muongrabi: runs an Android transfer list of version 3 over a lent image while new data arrives in pieces.
+ * muongrabi: runs an Android transfer list of version 3 over a lent image while new data arrives in pieces, and loads an Android sparse file
+ * into a lent image.
  *
  * For C99 and C++98, and later ones. Link with libmuongrabi.a: `pkg-config --cflags --libs muongrabi` after `./install PREFIX`, or
  * target/staticlib/libmuongrabi.a as it is built. The archive is for x86-64 Linux, and not yet for AArch64; it wants memcpy, memmove and
@@ -13,6 +14,8 @@
  *         state = answer.state;
  *         if (answer.outcome != MUONGRABI_MORE) break;
  *     }
+ *
+ * A first image that comes as a sparse file: muongrabi_sparse_load(file, file_length, image, image_length), which gives 0 or a refusal number.
  *
  * For all functions: a pointer with length n names n readable bytes, writable ones for image, stash and work; cuts names n readable
  * numbers; out names 20 writable bytes and is not null. A null pointer elsewhere names no bytes and no numbers, whatever n is given with
@@ -33,7 +36,7 @@
 extern "C" {
 #endif
 
-#define MUONGRABI_VERSION "0.2.0"
+#define MUONGRABI_VERSION "0.3.0"
 #define MUONGRABI_ABI 1   /* another number whenever the layout of a struct or the parameters of a function below change */
 
 /* Limits, 64 bits wide, so that blocks times bytes do not wrap. */
@@ -52,7 +55,8 @@ extern "C" {
  * Refusal numbers. The line given with one is that line of the list, counted from 1, where nothing else is said.
  *
  * An opening gives 1 to 15 and looks at no block. A call gives 6 to 14, 16 and 17, and repeats the refusal that its state holds. On
- * the list that was opened, with the states given back and areas of the same lengths, it gives 16 only.
+ * the list that was opened, with the states given back and areas of the same lengths, it gives 16 only. Loading a sparse file gives 30 to
+ * 36, which have no line, and nothing else does.
  */
 enum muongrabi_refusal_number {
     MUONGRABI_REFUSAL_AREA_SIZE = 1,         /* image, stash or work area not whole blocks, or over its limit; line 0 */
@@ -71,7 +75,15 @@ enum muongrabi_refusal_number {
     MUONGRABI_REFUSAL_NO_ROOM = 14,          /* holding it would pass line 3 or line 4 */
     MUONGRABI_REFUSAL_TOTAL_DIFFERS = 15,    /* all new, zero and move targets together differ from line 2; line 2 */
     MUONGRABI_REFUSAL_HASH_DIFFERS = 16,     /* in a run: a source's SHA-1 is not the one in the list */
-    MUONGRABI_REFUSAL_STATE_IMPOSSIBLE = 17  /* in a call: state impossible, or the length of list, image or area changed; line 0 */
+    MUONGRABI_REFUSAL_STATE_IMPOSSIBLE = 17, /* in a call: state impossible, or the length of list, image or area changed; line 0 */
+
+    MUONGRABI_REFUSAL_SPARSE_HEADER = 30,     /* sparse file's header cut short, or its mark or major version another */
+    MUONGRABI_REFUSAL_SPARSE_SIZES = 31,      /* its header sizes not 28 and 12, or its block size not 4096 */
+    MUONGRABI_REFUSAL_SPARSE_IMAGE = 32,      /* image not the blocks that the header says, or those over the limit */
+    MUONGRABI_REFUSAL_SPARSE_CHUNK = 33,      /* chunk cut short, of unknown type, of no blocks, or with a wrong total of bytes */
+    MUONGRABI_REFUSAL_SPARSE_PAST_IMAGE = 34, /* chunk ends past the image */
+    MUONGRABI_REFUSAL_SPARSE_CHECKSUM = 35,   /* chunk of type 0xCAC4, a checksum */
+    MUONGRABI_REFUSAL_SPARSE_END = 36         /* blocks missing after the last chunk, or bytes left over */
 };
 
 /*
@@ -104,7 +116,18 @@ static inline const char *muongrabi_refusal_text(size_t number)
         "the source does not have the hash that the list gives",
         "the state does not fit the list and the areas of this call",
     };
-    return number < sizeof texts / sizeof *texts ? texts[number] : "a number that no rule gives";
+    static const char *const texts_from_30[] = {
+        "the file is no sparse file of major version 1: its header is cut short, or the mark or the version in it is another",
+        "the sparse file's header sizes are not 28 and 12, or its block size is not 4096",
+        "the image does not have as many blocks as the sparse file says, or the file says more than 1048576 of them",
+        "a chunk of the sparse file is cut short, of an unknown type, of no blocks, or of another length than it says",
+        "a chunk of the sparse file ends past the image",
+        "the sparse file has a checksum chunk (0xCAC4), which is not supported",
+        "the sparse file's chunks end before the image does, or there are bytes after the last of them",
+    };
+    if (number < sizeof texts / sizeof *texts) return texts[number];
+    if (number >= 30 && number - 30 < sizeof texts_from_30 / sizeof *texts_from_30) return texts_from_30[number - 30];
+    return "a number that no rule gives";
 }
 
 /* A refusal; number 0 is none. */
@@ -210,8 +233,17 @@ muongrabi_answer muongrabi_run(const uint8_t *list, size_t list_length,
                                const size_t *cuts, size_t cuts_length);
 
 /*
+ * Loads a sparse file into the image, which has as many blocks as the file's header says (a number of 32 bits, little-endian, at its byte 16):
+ * a raw chunk's blocks get the bytes it carries, a fill's blocks its four bytes over and over, and don't-care blocks keep what the image has.
+ * Gives 0, or 30 to 36: that of the header, else the earliest faulty chunk's lowest, else that of the end. The whole file is checked before
+ * the first byte is written, so a file that is refused leaves the image as it was. Minor version, checksum field and reserved bytes are not
+ * looked at.
+ */
+uint32_t muongrabi_sparse_load(const uint8_t *file, size_t file_length, uint8_t *image, size_t image_length);
+
+/*
  * Null pointers. The exports want a pointer that is not null even where they read nothing through it. So each name above stands, from here
- * on, for an inline function that lends no bytes where it is given null. Those over structs name muongrabi_abi_1 too. Who calls the exports
+ * on, for an inline function that lends no bytes where it is given null. All but the digest's name muongrabi_abi_1 too. Who calls the exports
  * from another language passes pointers that are not null.
  */
 static inline const uint8_t *muongrabi_lent_bytes(const uint8_t *bytes)
@@ -281,10 +313,18 @@ static inline muongrabi_answer muongrabi_run_lent(const uint8_t *list, size_t li
                          muongrabi_lent_numbers(cuts), muongrabi_lent_length(cuts, cuts_length));
 }
 
+static inline uint32_t muongrabi_sparse_load_lent(const uint8_t *file, size_t file_length, uint8_t *image, size_t image_length)
+{
+    (void)muongrabi_abi_1();
+    return muongrabi_sparse_load(muongrabi_lent_bytes(file), muongrabi_lent_length(file, file_length),
+                                 muongrabi_lent_area(image), muongrabi_lent_length(image, image_length));
+}
+
 #define muongrabi_digest muongrabi_digest_lent
 #define muongrabi_open muongrabi_open_lent
 #define muongrabi_call muongrabi_call_lent
 #define muongrabi_run muongrabi_run_lent
+#define muongrabi_sparse_load muongrabi_sparse_load_lent
 
 #ifdef __cplusplus
 }

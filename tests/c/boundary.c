@@ -1,6 +1,6 @@
 /*
- * Lent areas stand against a page that may not be touched, behind them or before them, and list, piece and cuts may not be written: a byte
- * read or written outside what was lent ends the program. What is null, and refusals in words, are tried after that. Ends in one line
+ * Lent areas stand against a page that may not be touched, behind them or before them, and list, piece, cuts and sparse file may not be
+ * written: a byte read or written outside what was lent ends the program. What is null, and refusals in words, are tried after that. Ends in one line
  * `N passed, M failed`.
  */
 #define _DEFAULT_SOURCE
@@ -91,7 +91,7 @@ static void name_of(const char *letters, char out[41])
     for (int k = 0; k < 20; k++) sprintf(out + 2 * k, "%02x", hash[k]);
 }
 
-static lot list_lot, image_lot, stash_lot, work_lot, piece_lot, cuts_lot, hash_lot;
+static lot list_lot, image_lot, stash_lot, work_lot, piece_lot, cuts_lot, hash_lot, file_lot;
 
 /* Digests at every length around the padding, read and written against the pages. */
 static void digests(void)
@@ -255,6 +255,115 @@ static void nothing_lent(void)
     check(good, "states of border values");
 }
 
+static uint8_t sparse_file[3 * BLOCK];
+static size_t sparse_length;
+
+/* Numbers of two or four bytes, the lowest first. */
+static void put_number(uint32_t number, size_t bytes)
+{
+    for (; bytes > 0; bytes--, number >>= 8) sparse_file[sparse_length++] = (uint8_t)number;
+}
+
+static void put_header(uint32_t blocks, uint32_t chunks)
+{
+    sparse_length = 0;
+    put_number(0xED26FF3A, 4);
+    put_number(1, 2);
+    put_number(0, 2);
+    put_number(28, 2);
+    put_number(12, 2);
+    put_number(4096, 4);
+    put_number(blocks, 4);
+    put_number(chunks, 4);
+    put_number(0, 4);
+}
+
+static void put_chunk(uint32_t kind, uint32_t blocks, const void *body, size_t body_length)
+{
+    put_number(kind, 4);
+    put_number(blocks, 4);
+    put_number(12 + (uint32_t)body_length, 4);
+    if (body_length) memcpy(sparse_file + sparse_length, body, body_length);
+    sparse_length += body_length;
+}
+
+/* Five blocks: raw, two filled, one kept, raw. The last chunk ends both file and image. */
+static void make_sparse_file(void)
+{
+    static uint8_t raw[2 * BLOCK];
+    fill(raw, "rs");
+    put_header(5, 4);
+    put_chunk(0xCAC1, 1, raw, BLOCK);
+    put_chunk(0xCAC2, 2, "ffff", 4);
+    put_chunk(0xCAC3, 1, NULL, 0);
+    put_chunk(0xCAC1, 1, raw + BLOCK, BLOCK);
+}
+
+/* A sparse file, every beginning of it, and each of its bytes altered, against the pages. Of the first raw chunk's bytes only the last is. */
+static void sparse_files(void)
+{
+    static uint8_t image[5 * BLOCK];
+    fill(image, "ABCDE");
+    make_sparse_file();
+    for (int behind = 0; behind < 2; behind++) {
+        uint8_t *i = lay(&image_lot, image, sizeof image, behind, 0);
+        const uint8_t *f = lay(&file_lot, sparse_file, sparse_length, behind, 1);
+        check(muongrabi_sparse_load(f, sparse_length, i, sizeof image) == 0 && holds(i, "rffDs"), "a sparse file");
+        i = lay(&image_lot, image, sizeof image, behind, 0);
+        int good = 1;
+        for (size_t n = 0; n < sparse_length; n++) {
+            f = lay(&file_lot, sparse_file, n, behind, 1);
+            good &= muongrabi_sparse_load(f, n, i, sizeof image) == (n < 28 ? MUONGRABI_REFUSAL_SPARSE_HEADER : MUONGRABI_REFUSAL_SPARSE_CHUNK);
+        }
+        check(good && holds(i, "ABCDE"), "every beginning of a sparse file");
+        good = 1;
+        f = lay(&file_lot, sparse_file, sparse_length, behind, 1);
+        for (size_t n = 0; n < sizeof image; n += n % 512 == 1 ? 510 : 1) {
+            i = lay(&image_lot, image, n, behind, 0);
+            good &= muongrabi_sparse_load(f, sparse_length, i, n) == MUONGRABI_REFUSAL_SPARSE_IMAGE && memcmp(i, image, n) == 0;
+        }
+        check(good, "every shorter image");
+        good = 1;
+        for (size_t at = 0; at < sparse_length; at += at == 39 ? BLOCK : 1) {
+            static const uint8_t others[] = {0, 1, 0x7f, 0x80, 0xc4, 0xff};
+            for (size_t k = 0; k < sizeof others; k++) {
+                static uint8_t altered[3 * BLOCK];
+                memcpy(altered, sparse_file, sparse_length);
+                altered[at] = others[k];
+                f = lay(&file_lot, altered, sparse_length, behind, 1);
+                i = lay(&image_lot, image, sizeof image, behind, 0);
+                uint32_t number = muongrabi_sparse_load(f, sparse_length, i, sizeof image);
+                good &= number == 0 || (number >= 30 && number <= 36 && memcmp(i, image, sizeof image) == 0);
+            }
+        }
+        check(good, "each byte of a sparse file altered");
+    }
+
+    lot none = new_lot(0);
+    check(muongrabi_sparse_load(none.first, 0, none.first, 0) == 30, "no sparse file");
+    put_header(0, 0);
+    const uint8_t *f = lay(&file_lot, sparse_file, sparse_length, 1, 1);
+    check(muongrabi_sparse_load(f, sparse_length, none.first, 0) == 0, "a sparse file of no blocks");
+}
+
+/* Memory of exactly the lengths that are lent, so that a sanitizer or valgrind sees its ends too. */
+static void sparse_files_in_allocated_memory(void)
+{
+    make_sparse_file();
+    for (size_t length = sparse_length - 1; length <= sparse_length + 1; length++) {
+        uint8_t *file = malloc(length), *image = malloc(5 * BLOCK);
+        if (!file || !image) exit(2);
+        memset(file, 0, length);
+        memcpy(file, sparse_file, length < sparse_length ? length : sparse_length);
+        fill(image, "ABCDE");
+        uint32_t number = muongrabi_sparse_load(file, length, image, 5 * BLOCK);
+        uint32_t expected = length == sparse_length ? 0 : length < sparse_length ? MUONGRABI_REFUSAL_SPARSE_CHUNK : MUONGRABI_REFUSAL_SPARSE_END;
+        check(number == expected && holds(image, number == 0 ? "rffDs" : "ABCDE"), "a sparse file in allocated memory");
+        free(file);
+        free(image);
+    }
+}
+
 /* Null names no bytes, whatever length is given with it. */
 static void null_pointers(void)
 {
@@ -295,18 +404,29 @@ static void null_pointers(void)
                                muongrabi_state) = muongrabi_call;
     answer = called(list, strlen(one), image, BLOCK, NULL, 0, NULL, 0, data, BLOCK, answer.state);
     check(answer.outcome == MUONGRABI_DONE && answer.taken == BLOCK, "null through a function pointer");
+
+    make_sparse_file();
+    check(muongrabi_sparse_load(NULL, sparse_length, image, BLOCK) == MUONGRABI_REFUSAL_SPARSE_HEADER, "a null sparse file with a length");
+    check(muongrabi_sparse_load(sparse_file, sparse_length, NULL, 5 * BLOCK) == MUONGRABI_REFUSAL_SPARSE_IMAGE, "a null image of a sparse file");
+    check(muongrabi_sparse_load(NULL, 0, NULL, 0) == MUONGRABI_REFUSAL_SPARSE_HEADER, "all null of a sparse file");
+    put_header(0, 0);
+    uint32_t (*load)(const uint8_t *, size_t, uint8_t *, size_t) = muongrabi_sparse_load;
+    check(load(sparse_file, sparse_length, NULL, 99) == 0, "no blocks into null, through a function pointer");
 }
 
 static void refusal_texts(void)
 {
+    const char *other = muongrabi_refusal_text(SIZE_MAX);
     int good = 1;
-    for (size_t k = 0; k <= MUONGRABI_REFUSAL_STATE_IMPOSSIBLE; k++)
-        for (size_t j = 0; j < k; j++) good &= strcmp(muongrabi_refusal_text(k), muongrabi_refusal_text(j)) != 0;
-    check(good, "each refusal has a text of its own");
-    const char *other = muongrabi_refusal_text(MUONGRABI_REFUSAL_STATE_IMPOSSIBLE + 1);
-    check(strcmp(other, muongrabi_refusal_text(SIZE_MAX)) == 0, "a text for every other number");
+    for (size_t k = 0; k <= MUONGRABI_REFUSAL_SPARSE_END + 1; k++) {
+        int is_one = k <= MUONGRABI_REFUSAL_STATE_IMPOSSIBLE || (k >= MUONGRABI_REFUSAL_SPARSE_HEADER && k <= MUONGRABI_REFUSAL_SPARSE_END);
+        good &= (strcmp(muongrabi_refusal_text(k), other) != 0) == is_one;
+        for (size_t j = 0; is_one && j < k; j++) good &= strcmp(muongrabi_refusal_text(k), muongrabi_refusal_text(j)) != 0;
+    }
+    check(good, "each refusal has a text of its own, and every other number one in common");
     check(strstr(muongrabi_refusal_text(MUONGRABI_REFUSAL_UNSUPPORTED), "bsdiff") != NULL, "texts stand at their numbers");
     check(strstr(muongrabi_refusal_text(MUONGRABI_REFUSAL_HASH_DIFFERS), "hash") != NULL, "texts stand at their numbers");
+    check(strstr(muongrabi_refusal_text(MUONGRABI_REFUSAL_SPARSE_CHECKSUM), "0xCAC4") != NULL, "texts stand at their numbers");
 }
 
 int main(void)
@@ -318,11 +438,14 @@ int main(void)
     piece_lot = new_lot(3);
     cuts_lot = new_lot(1);
     hash_lot = new_lot(1);
+    file_lot = new_lot(3);
     digests();
     size_t length = make_list();
     whole_runs(length);
     beginnings(length);
     nothing_lent();
+    sparse_files();
+    sparse_files_in_allocated_memory();
     null_pointers();
     refusal_texts();
     printf("%d passed, %d failed\n", passed, failed);

@@ -11,6 +11,7 @@
 #undef muongrabi_open
 #undef muongrabi_call
 #undef muongrabi_run
+#undef muongrabi_sparse_load
 
 static const void *pointers[6];
 static size_t lengths[6], line;
@@ -78,6 +79,13 @@ muongrabi_answer muongrabi_run(const uint8_t *list, size_t list_length, uint8_t 
     return answer;
 }
 
+uint32_t muongrabi_sparse_load(const uint8_t *file, size_t file_length, uint8_t *image, size_t image_length)
+{
+    note(0, file, file_length);
+    note(1, image, image_length);
+    return 36;
+}
+
 static int passed, failed;
 
 static void check(int good, const char *what, int null)
@@ -126,6 +134,10 @@ int main(void)
         state = muongrabi_open_lent(given[0], 10, 11, 12, 13);
         check(asked == 1 && state.line == 7 && handed_on(0, given[0]) && lengths[1] == 11 && lengths[2] == 12 && lengths[3] == 13, "open", null);
         state.line = 77;
+
+        asked = 0;
+        check(muongrabi_sparse_load_lent(given[0], 10, given[1], 11) == 36 && asked == 1 && handed_on(0, given[0]) && handed_on(1, given[1]),
+              "sparse load", null);
 
         uint8_t out[20];
         muongrabi_digest_lent(given[0], 10, out);

@@ -32,9 +32,9 @@ moreWord = 109 ∷ 111 ∷ 114 ∷ 101 ∷ 32 ∷ []
 abbrev pub refusedWord : List ℕ
 refusedWord = 114 ∷ 101 ∷ 102 ∷ 117 ∷ 115 ∷ 101 ∷ 100 ∷ 32 ∷ []
 
--- a word, the bytes taken and an LF
-abbrev pub takenLine : List ℕ → ℕ → List ℕ
-takenLine word taken = word ++ (decimal taken ++ (10 ∷ []))
+-- a word, a number and an LF
+abbrev pub numberLine : List ℕ → ℕ → List ℕ
+numberLine word n = word ++ (decimal n ++ (10 ∷ []))
 
 -- `refused`, the number, the line and an LF
 abbrev pub refusedLine : ℕ → ℕ → List ℕ
@@ -42,8 +42,8 @@ refusedLine number line = refusedWord ++ (decimal number ++ ((32 ∷ []) ++ (dec
 
 -- `done T`, `more T` or `refused K L`
 abbrev pub answerLine : Outcome → ℕ → List ℕ
-answerLine Done taken = takenLine doneWord taken
-answerLine More taken = takenLine moreWord taken
+answerLine Done taken = numberLine doneWord taken
+answerLine More taken = numberLine moreWord taken
 answerLine (Refused refusal) taken = refusedLine (refusal .number) (refusal .line)
 
 -- the most digits of a 64-bit number

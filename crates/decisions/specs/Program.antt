@@ -18,8 +18,11 @@ abbrev pub mostList : ℕ
 mostList = 4096
 
 -- an image of at most 8 blocks
+abbrev pub mostBlocks : ℕ
+mostBlocks = 8
+
 abbrev pub mostImage : ℕ
-mostImage = 8 * blockBytes
+mostImage = mostBlocks * blockBytes
 
 -- areas of 3 blocks each
 abbrev pub areaBytes : ℕ

@@ -4,7 +4,8 @@ ghost use mathlib.Core.Path.{_≡_};
 ghost use lib.ListN.{length};
 ghost use lib.Seq.{paste};
 ghost use Rattle.io.specs.Counts.{Counts};
-ghost use Rattle.decisions.specs.Answer.{decimal, mostDigits, doneWord, takenLine, refusedLine, answerLine, lineOf};
+ghost use Rattle.decisions.specs.Answer.{decimal, mostDigits, refusedWord, numberLine, refusedLine, answerLine, lineOf};
+ghost use Rattle.decisions.specs.Loading.{loadLine};
 use updater::Outcome;
 
 // `refused `, two numbers, the space between them and an LF.
@@ -40,14 +41,14 @@ fn put_decimal(out: &mut [u8], at: usize, n: u64) -> usize
     put(out, at, &digits[..k])
 }
 
-fn taken_line(word: &[u8], taken: u64) -> Line
-    requires { ⌜ length (now word) ≤ length doneWord ⌝ }
-    ensures { λ r. ⌜ r ≡ lineOf (takenLine (now (word .entry)) taken) ⌝ }
+fn number_line(word: &[u8], n: u64) -> Line
+    requires { ⌜ length (now word) ≤ length refusedWord ⌝ }
+    ensures { λ r. ⌜ r ≡ lineOf (numberLine (now (word .entry)) n) ⌝ }
     ensures { λ r. ⌜ Counts (r .length) (r .bytes) ⌝ }
 {
     let mut bytes = [0u8; LINE_BYTES];
     let a = put(&mut bytes, 0, word);
-    let b = put_decimal(&mut bytes, a, taken);
+    let b = put_decimal(&mut bytes, a, n);
     let length = put(&mut bytes, b, b"\n");
     Line { bytes, length }
 }
@@ -71,8 +72,19 @@ pub fn answer_line(outcome: Outcome, taken: u64) -> Line
     ensures { λ r. ⌜ Counts (r .length) (r .bytes) ⌝ }
 {
     match outcome {
-        Outcome::Done => taken_line(b"done ", taken),
-        Outcome::More => taken_line(b"more ", taken),
+        Outcome::Done => number_line(b"done ", taken),
+        Outcome::More => number_line(b"more ", taken),
         Outcome::Refused(refusal) => refused_line(refusal.number, refusal.line),
     }
+}
+
+// What is printed for a load: its blocks, or the number of its refusal.
+pub fn load_line(number: usize, blocks: usize) -> Line
+    ensures { λ r. ⌜ r ≡ lineOf (loadLine number blocks) ⌝ }
+    ensures { λ r. ⌜ Counts (r .length) (r .bytes) ⌝ }
+{
+    if number != 0 {
+        return number_line(b"refused ", number as u64);
+    }
+    number_line(b"loaded ", blocks as u64)
 }

@@ -9,10 +9,13 @@ use state::refusals::LIST_LENGTH;
 use updater::Outcome;
 
 pub mod answer;
+pub mod loading;
 
 pub const LIST_BYTES: usize = 4096;
 
-pub const IMAGE_BYTES: usize = 8 * BLOCK_BYTES;
+pub const IMAGE_BLOCKS: usize = 8;
+
+pub const IMAGE_BYTES: usize = IMAGE_BLOCKS * BLOCK_BYTES;
 
 pub const AREA_BYTES: usize = 3 * BLOCK_BYTES;
 

@@ -1,31 +1,34 @@
 // Numbers of two and four bytes, the lowest byte first.
 ghost use mathlib.Core.Path.{_≡_};
-ghost use lib.ListN.{getD};
-ghost use Rattle.little_endian.specs.LittleEndian.{twoAt, fourAt};
+ghost use Rattle.little_endian.specs.LittleEndian.{two, twoAt, fourAt};
 
-fn byte_at(s: &[u8], at: usize) -> u8
-    ensures { λ r. ⌜ r ≡ getD (now (s .entry)) at 0 ⌝ }
+fn two(low: u8, high: u8) -> u16
+    ensures { λ r. ⌜ r ≡ two low high ⌝ }
 {
-    if s.len() <= at {
-        return 0;
-    }
-    s[at]
+    low as u16 + 256 * (high as u16)
 }
 
+// The number at a position; 0 where its bytes are not all there.
 pub fn read_u16(s: &[u8], at: usize) -> u16
     ensures { λ r. ⌜ r ≡ twoAt (now (s .entry)) at ⌝ }
 {
-    if s.len() <= at {
+    if s.len() < 2 {
         return 0;
     }
-    byte_at(s, at) as u16 + 256 * (byte_at(s, at + 1) as u16)
+    if s.len() - 2 < at {
+        return 0;
+    }
+    two(s[at], s[at + 1])
 }
 
 pub fn read_u32(s: &[u8], at: usize) -> u32
     ensures { λ r. ⌜ r ≡ fourAt (now (s .entry)) at ⌝ }
 {
-    if s.len() <= at {
+    if s.len() < 4 {
         return 0;
     }
-    read_u16(s, at) as u32 + 65536 * (read_u16(s, at + 2) as u32)
+    if s.len() - 4 < at {
+        return 0;
+    }
+    two(s[at], s[at + 1]) as u32 + 65536 * (two(s[at + 2], s[at + 3]) as u32)
 }

@@ -25,6 +25,7 @@ use state::State;
 use updater::Outcome;
 use updater::call;
 
+pub mod load;
 mod read;
 mod write_back;
 

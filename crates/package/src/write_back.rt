@@ -1,5 +1,6 @@
 // Writing the image back where it lies: the file keeps its name, owner and mode, and a link stays a link. A power cut can leave such a
-// write half done, so a synced copy of the new image stands beside it until the image itself is synced.
+// write half done, so a synced copy of the new image stands beside it until the image itself is synced. An image that is new is made under
+// the copy's name, and gets its own when it is whole.
 ghost use Rattle.io.specs.Counts.{Counts};
 use libc::SEEK_CUR;
 use libc::SEEK_SET;
@@ -77,14 +78,18 @@ fn keep_copy(path: &[u8], image: &[u8]) -> bool {
     false
 }
 
-fn overwrite(fd: i32, image: &[u8]) -> bool {
-    if libc::lseek(fd, 0, SEEK_SET) != 0 {
-        return false;
-    }
+fn write_synced(fd: i32, image: &[u8]) -> bool {
     if !io::write_all(fd, image) {
         return false;
     }
     libc::fsync(fd) == 0
+}
+
+fn overwrite(fd: i32, image: &[u8]) -> bool {
+    if libc::lseek(fd, 0, SEEK_SET) != 0 {
+        return false;
+    }
+    write_synced(fd, image)
 }
 
 // Writes the image over its file. Where that fails, the copy stays: it alone is whole then.
@@ -103,4 +108,30 @@ pub(crate) fn write_back(fd: i32, path: &[u8], copy_path: &[u8], image: &[u8]) -
         os::fail(copy_path);
     }
     true
+}
+
+// Makes the image file. Where that fails, nothing of it stays.
+pub(crate) fn make_image(path: &[u8], copy_path: &[u8], image: &[u8]) -> bool {
+    if image.len() == 0 {
+        return true;
+    }
+    let fd = os::create(copy_path);
+    if fd < 0 {
+        os::fail(copy_path);
+        return false;
+    }
+    let written = write_synced(fd, image);
+    libc::close(fd);
+    if written {
+        if os::rename(copy_path, path) == 0 {
+            if sync_folder(path) {
+                return true;
+            }
+            os::fail(path);
+            return false;
+        }
+    }
+    os::fail(copy_path);
+    os::unlink(copy_path);
+    false
 }

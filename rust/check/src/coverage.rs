@@ -1,8 +1,11 @@
 //! How often each thing occurred in a series of cases.
 
+mod sparse;
+
 use crate::generate::line_starts;
 use crate::hex;
 use reference::{plain, Answer, Lengths, Outcome, State, BLOCK, MOST_STASHES};
+pub use sparse::SparseCoverage;
 use std::fmt::Write;
 
 /// Lines that ran, by what they are.

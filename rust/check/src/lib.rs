@@ -18,6 +18,8 @@ pub trait Implementation {
     fn open(&self, list: &[u8], image: usize, stash: usize, work: usize) -> State;
     fn call(&self, list: &[u8], image: &mut [u8], stash: &mut [u8], work: &mut [u8], piece: &[u8], state: State) -> Answer;
     fn run(&self, list: &[u8], image: &mut [u8], stash: &mut [u8], work: &mut [u8], data: &[u8], cuts: &[usize]) -> Answer;
+    /// Nothing, or the number that the file is refused with.
+    fn load_sparse(&self, file: &[u8], image: &mut [u8]) -> Result<(), usize>;
 }
 
 /// The rules in plain loops.
@@ -36,6 +38,9 @@ impl Implementation for Plain {
     fn run(&self, list: &[u8], image: &mut [u8], stash: &mut [u8], work: &mut [u8], data: &[u8], cuts: &[usize]) -> Answer {
         plain::run(list, image, stash, work, data, cuts)
     }
+    fn load_sparse(&self, file: &[u8], image: &mut [u8]) -> Result<(), usize> {
+        plain::load_sparse(file, image)
+    }
 }
 
 /// The rules by splitting and collecting; its run is one call with all the data.
@@ -53,5 +58,8 @@ impl Implementation for Model {
     }
     fn run(&self, list: &[u8], image: &mut [u8], stash: &mut [u8], work: &mut [u8], data: &[u8], _cuts: &[usize]) -> Answer {
         model::call(list, image, stash, work, data, model::open(list, image.len(), stash.len(), work.len()))
+    }
+    fn load_sparse(&self, file: &[u8], image: &mut [u8]) -> Result<(), usize> {
+        model::load_sparse(file, image)
     }
 }

@@ -31,6 +31,10 @@ impl Implementation for Library {
         let (called, state) = muongrabi::run(list, Areas { image, stash, work }, data, cuts);
         answer_of(called, &state)
     }
+
+    fn load_sparse(&self, file: &[u8], image: &mut [u8]) -> Result<(), usize> {
+        muongrabi::load_sparse(file, image).map_err(|refusal| refusal.number())
+    }
 }
 
 /// Every field, those past the count too, since whole states are compared.

@@ -1,7 +1,7 @@
 //! Cases as `tests/unpack` writes them: lines `KEY VALUE`, and an empty line after each case.
 
 use reference::{Hash, Lengths, Outcome, Refusal, State};
-use std::collections::HashMap;
+use std::collections::{BTreeSet, HashMap};
 use std::str::FromStr;
 
 /// One case. What it lacks, or what cannot be read as it should, is an error in words.
@@ -18,6 +18,15 @@ impl Record {
     pub fn all(text: &str) -> Vec<Record> {
         let cases = text.split_terminator("\n\n");
         cases.map(|case| Record(case.lines().map(|line| line.split_once(' ').unwrap_or((line, ""))).map(owned).collect())).collect()
+    }
+
+    pub fn has(&self, key: &str) -> bool {
+        self.0.contains_key(key)
+    }
+
+    /// The names in it; for all that a row has, the row's.
+    pub fn names(&self) -> BTreeSet<&str> {
+        self.0.keys().map(|key| key.split('.').next().unwrap_or(key)).collect()
     }
 
     pub fn text(&self, key: &str) -> Read<&str> {

@@ -1,28 +1,32 @@
 //! A few thousand seeded cases with overflow checks on, and bytes and states of no shape at all.
 
-use check::compare::Checker;
+use check::compare::{Checker, Series, SparseChecker};
 use check::generate::{disturb, Rng};
-use check::{Implementation, Library, Model};
+use check::{Library, Model};
 use reference::{plain, State, BLOCK};
 
-fn seeded_cases(other: &dyn Implementation) {
-    let mut checker = Checker::new(other);
+fn seeded_cases(checker: &mut dyn Series) {
     for index in 0..5_000 {
         if let Err(difference) = checker.case(20_240_601, index) {
             panic!("case {index}: {difference}");
         }
     }
-    assert_eq!(checker.coverage.missing(), Vec::<String>::new(), "never occurred");
+    assert_eq!(checker.missing(), Vec::<String>::new(), "never occurred");
 }
 
 #[test]
 fn seeded_cases_on_the_library() {
-    seeded_cases(&Library);
+    seeded_cases(&mut Checker::new(&Library));
 }
 
 #[test]
 fn seeded_cases_on_the_model() {
-    seeded_cases(&Model);
+    seeded_cases(&mut Checker::new(&Model));
+}
+
+#[test]
+fn seeded_sparse_files() {
+    seeded_cases(&mut SparseChecker::new(&[("library", &Library), ("model", &Model)]));
 }
 
 #[test]

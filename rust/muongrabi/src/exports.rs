@@ -88,6 +88,7 @@ extern "C" {
         data: *const u8, data_length: usize,
         cuts: *const usize, cuts_length: usize,
     ) -> Answer;
+    fn muongrabi_sparse_load(file: *const u8, file_length: usize, image: *mut u8, image_length: usize) -> u32;
 }
 
 /// Only an archive of this layout has a function of that name, so that no other one links, wherever the linker found it.
@@ -139,4 +140,11 @@ pub fn run(list: &[u8], image: &mut [u8], stash: &mut [u8], work: &mut [u8], dat
             cuts.as_ptr(), cuts.len(),
         )
     }
+}
+
+/// 0, or the number of a refusal.
+pub fn load_sparse(file: &[u8], image: &mut [u8]) -> u32 {
+    ask_abi();
+    // SAFETY: two slices, each with its own length. The image is borrowed for writing, so they do not overlap.
+    unsafe { muongrabi_sparse_load(file.as_ptr(), file.len(), image.as_mut_ptr(), image.len()) }
 }

@@ -2,10 +2,10 @@
 //! any size. After a dropped connection it goes on from the state it left, and a source that does not have its hash stops the run before
 //! a byte of the target is written.
 //!
-//! This crate is the safe face of a library that is proved: any bytes as list, data or state get an answer; a list opens exactly when it
-//! meets the rules, and then does what they say, in order; and however the new data is cut into pieces, what stands after the last call is
-//! what the rules give for the pieces joined. Nothing is allocated, no file is opened and nothing is kept inside: all that is worked on is
-//! lent, and what must be remembered between calls is the [`State`]. Some 30 KiB of stack are wanted.
+//! This crate is the safe face of a library that is proved: any bytes as list, data, state or sparse file get an answer; a list opens
+//! exactly when it meets the rules, and then does what they say, in order; and however the new data is cut into pieces, what stands after the
+//! last call is what the rules give for the pieces joined. Nothing is allocated, no file is opened and nothing is kept inside: all that is
+//! worked on is lent, and what must be remembered between calls is the [`State`]. Some 30 KiB of stack are wanted.
 //!
 //! ```
 //! use muongrabi::{Areas, Outcome, Updater, BLOCK};
@@ -37,6 +37,8 @@
 //! assert_eq!(refusal.to_string(), "line 5: a range of the target or source ends past the image (refusal 8)");
 //! ```
 //!
+//! A first image that comes as an Android sparse file is put into its place by [`load_sparse`].
+//!
 //! It runs on x86-64 Linux, where `libmuongrabi.a` is built (`./build library` in the repository); the build script finds the archive, or
 //! says what to do. With the feature `std`, [`Updater`] is a `std::io::Write`.
 
@@ -53,6 +55,7 @@ mod exports;
 mod limits;
 mod outcome;
 mod refusal;
+mod sparse;
 mod state;
 mod updater;
 
@@ -60,6 +63,7 @@ pub use areas::{Areas, Lengths};
 pub use limits::{BLOCK, MOST_AREA, MOST_IMAGE, MOST_LIST, MOST_STASHES};
 pub use outcome::{Called, Outcome};
 pub use refusal::Refusal;
+pub use sparse::load_sparse;
 pub use state::{Fields, Stash, State};
 pub use updater::Updater;
 

@@ -2,7 +2,7 @@
 
 use core::fmt;
 
-/// Why a list, a line or a call is refused, and at which line of the list.
+/// Why a list, a line, a call or a sparse file is refused, and at which line of the list.
 ///
 /// Its `Display` is for people: `line 6: the source does not have the hash that the list gives (refusal 16)`.
 #[derive(Clone, Copy, PartialEq, Eq, Hash, Debug)]
@@ -47,6 +47,20 @@ impl Refusal {
     pub const HASH_DIFFERS: usize = 16;
     /// In a call: the state is impossible, or the length of the list or of an area changed.
     pub const STATE_IMPOSSIBLE: usize = 17;
+    /// A sparse file's header is cut short, or its mark or major version is another.
+    pub const SPARSE_HEADER: usize = 30;
+    /// A sparse file's header sizes are not 28 and 12, or its block size is not 4,096.
+    pub const SPARSE_SIZES: usize = 31;
+    /// The image does not have the blocks that a sparse file's header says, or those are over the limit.
+    pub const SPARSE_IMAGE: usize = 32;
+    /// A chunk of a sparse file is cut short, of unknown type, of no blocks, or has a wrong total of bytes.
+    pub const SPARSE_CHUNK: usize = 33;
+    /// A chunk of a sparse file ends past the image.
+    pub const SPARSE_PAST_IMAGE: usize = 34;
+    /// A chunk of a sparse file is a checksum, 0xCAC4.
+    pub const SPARSE_CHECKSUM: usize = 35;
+    /// After a sparse file's last chunk blocks are missing, or bytes are left over.
+    pub const SPARSE_END: usize = 36;
 }
 
 impl Refusal {
@@ -86,6 +100,15 @@ impl Refusal {
             Refusal::TOTAL_DIFFERS => "the targets of all new, zero and move lines together do not have as many blocks as line 2 says",
             Refusal::HASH_DIFFERS => "the source does not have the hash that the list gives",
             Refusal::STATE_IMPOSSIBLE => "the state does not fit the list and the areas of this call",
+            Refusal::SPARSE_HEADER => {
+                "the file is no sparse file of major version 1: its header is cut short, or the mark or the version in it is another"
+            }
+            Refusal::SPARSE_SIZES => "the sparse file's header sizes are not 28 and 12, or its block size is not 4096",
+            Refusal::SPARSE_IMAGE => "the image does not have as many blocks as the sparse file says, or the file says more than 1048576 of them",
+            Refusal::SPARSE_CHUNK => "a chunk of the sparse file is cut short, of an unknown type, of no blocks, or of another length than it says",
+            Refusal::SPARSE_PAST_IMAGE => "a chunk of the sparse file ends past the image",
+            Refusal::SPARSE_CHECKSUM => "the sparse file has a checksum chunk (0xCAC4), which is not supported",
+            Refusal::SPARSE_END => "the sparse file's chunks end before the image does, or there are bytes after the last of them",
             _ => "a number that no rule gives",
         }
     }

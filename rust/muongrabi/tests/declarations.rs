@@ -90,6 +90,13 @@ fn refusal_numbers() {
         ("TOTAL_DIFFERS", Refusal::TOTAL_DIFFERS),
         ("HASH_DIFFERS", Refusal::HASH_DIFFERS),
         ("STATE_IMPOSSIBLE", Refusal::STATE_IMPOSSIBLE),
+        ("SPARSE_HEADER", Refusal::SPARSE_HEADER),
+        ("SPARSE_SIZES", Refusal::SPARSE_SIZES),
+        ("SPARSE_IMAGE", Refusal::SPARSE_IMAGE),
+        ("SPARSE_CHUNK", Refusal::SPARSE_CHUNK),
+        ("SPARSE_PAST_IMAGE", Refusal::SPARSE_PAST_IMAGE),
+        ("SPARSE_CHECKSUM", Refusal::SPARSE_CHECKSUM),
+        ("SPARSE_END", Refusal::SPARSE_END),
     ];
     let of_header: Vec<(&str, usize)> = HEADER
         .lines()
@@ -100,17 +107,34 @@ fn refusal_numbers() {
     assert_eq!(constants(REFUSALS), numbers);
 }
 
+/// What the number means, in the crate's words.
+fn text(number: usize) -> &'static str {
+    Refusal::new(number, 0).text()
+}
+
 #[test]
 fn refusal_texts() {
-    let table = between(HEADER, "texts[] = {\n", "    };\n");
-    let texts: Vec<&str> =
-        table.lines().map(|line| line.trim().strip_prefix('"').and_then(|rest| rest.strip_suffix("\",")).expect("a text")).collect();
-    let ours: Vec<&str> = (0..=Refusal::STATE_IMPOSSIBLE).map(|number| Refusal::new(number, 0).text()).collect();
-    assert_eq!(texts, ours);
-    assert_eq!(between(HEADER, "texts[number] : \"", "\";"), Refusal::new(usize::MAX, 0).text());
+    let rows = [("texts[] = {\n", 0, Refusal::STATE_IMPOSSIBLE), ("texts_from_30[] = {\n", Refusal::SPARSE_HEADER, Refusal::SPARSE_END)];
+    for (row, first, last) in rows {
+        let table = between(HEADER, row, "    };\n");
+        let texts: Vec<&str> =
+            table.lines().map(|line| line.trim().strip_prefix('"').and_then(|rest| rest.strip_suffix("\",")).expect("a text")).collect();
+        let ours: Vec<&str> = (first..=last).map(text).collect();
+        assert_eq!(texts, ours);
+    }
+    assert_eq!(between(HEADER, "texts_from_30[number - 30];\n    return \"", "\";"), text(usize::MAX));
+    for number in (Refusal::STATE_IMPOSSIBLE + 1..Refusal::SPARSE_HEADER).chain([Refusal::SPARSE_END + 1]) {
+        assert_eq!(text(number), text(usize::MAX), "{number}");
+    }
     // A limit that a text names is the limit.
-    for (number, limit) in [(Refusal::AREA_SIZE, BLOCK), (Refusal::LIST_LENGTH, MOST_LIST), (Refusal::HEADER_LIMIT, MOST_STASHES)] {
-        assert!(ours[number].contains(&format!(" {limit} ")), "{}", ours[number]);
+    for (number, limit) in [
+        (Refusal::AREA_SIZE, BLOCK),
+        (Refusal::LIST_LENGTH, MOST_LIST),
+        (Refusal::HEADER_LIMIT, MOST_STASHES),
+        (Refusal::SPARSE_SIZES, BLOCK),
+        (Refusal::SPARSE_IMAGE, MOST_IMAGE),
+    ] {
+        assert!(text(number).split(' ').any(|word| word == limit.to_string()), "{}", text(number));
     }
 }
 
@@ -134,8 +158,15 @@ fn each_text_is_of_its_number() {
         (Refusal::TOTAL_DIFFERS, "new, zero and move lines together"),
         (Refusal::HASH_DIFFERS, "does not have the hash"),
         (Refusal::STATE_IMPOSSIBLE, "state"),
+        (Refusal::SPARSE_HEADER, "no sparse file"),
+        (Refusal::SPARSE_SIZES, "header sizes"),
+        (Refusal::SPARSE_IMAGE, "as many blocks as the sparse file says"),
+        (Refusal::SPARSE_CHUNK, "unknown type"),
+        (Refusal::SPARSE_PAST_IMAGE, "chunk of the sparse file ends past"),
+        (Refusal::SPARSE_CHECKSUM, "checksum"),
+        (Refusal::SPARSE_END, "after the last"),
     ] {
-        assert!(Refusal::new(number, 0).text().contains(words), "{number}");
+        assert!(text(number).contains(words), "{number}");
     }
 }
 
@@ -143,6 +174,7 @@ fn each_text_is_of_its_number() {
 fn words() {
     assert_eq!(Refusal::new(Refusal::LIST_LENGTH, 0).to_string(), "the list is longer than 4194304 bytes (refusal 2)");
     assert_eq!(Refusal::new(Refusal::OTHER_VERSION, 1).to_string(), "line 1: the list's version is not 3 (refusal 4)");
+    assert_eq!(Refusal::new(Refusal::SPARSE_PAST_IMAGE, 0).to_string(), "a chunk of the sparse file ends past the image (refusal 34)");
     assert_eq!(Refusal::new(99, 7).to_string(), "line 7: a number that no rule gives (refusal 99)");
 }
 
@@ -179,7 +211,13 @@ fn crosses(name: &str, kind: &str) -> String {
 
 #[test]
 fn functions() {
-    for (gives, name) in [("void", "digest"), ("muongrabi_state", "open"), ("muongrabi_answer", "call"), ("muongrabi_answer", "run")] {
+    for (gives, name, gives_here) in [
+        ("void", "digest", ""),
+        ("muongrabi_state", "open", " -> State"),
+        ("muongrabi_answer", "call", " -> Answer"),
+        ("muongrabi_answer", "run", " -> Answer"),
+        ("uint32_t", "sparse_load", " -> u32"),
+    ] {
         let of_rust = |source: &str| -> String {
             let parameters = between(source, &format!("fn muongrabi_{name}("), ")").split(',').filter(|one| !one.trim().is_empty());
             let parted = parameters.map(|one| one.split_once(':').expect("a parameter"));
@@ -194,6 +232,10 @@ fn functions() {
             })
             .collect();
         assert_eq!(of_rust(EXPORTS), of_header, "{name}");
+        for (source, end) in [(EXPORTS, ";"), (LIBRARY, "\n    ensures")] {
+            let declared = between(source, &format!("fn muongrabi_{name}("), end);
+            assert_eq!(declared.rsplit_once(')').map(|(_, after)| after), Some(gives_here), "{name}");
+        }
         // `data` is no name for a parameter in the proved source.
         let of_source = if name == "run" { of_rust(LIBRARY).replace("bytes", "data") } else { of_rust(LIBRARY) };
         assert_eq!(of_source, of_header, "{name}");

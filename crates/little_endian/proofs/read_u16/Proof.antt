@@ -1,54 +1,58 @@
--- `read_u16` meets its contract: past the end every byte is 0.
+-- `read_u16` meets its contract: its bytes are there, or not.
 -- Assumes nothing.
-use Prim.Native.Nat.{_+_}
+use mathlib.Core.Path.{_≡_, _∙_}
+use mathlib.Core.List.{List}
+use Prim.Native.Nat.{ℕ, _+_, _*_, _≤_, _<_}
 use native.Mathlib.Omega.{arith}
-use lib.ListN.{List·getD-eq-default}
-use Rattle.little_endian.specs.LittleEndian.{twoAt}
+use lib.ListN.{length, getD}
 use borrow.Author.Needs.{needs}
+use borrow.Author.Tests.{le-leb, lt-leb}
+use Rattle.little_endian.specs.LittleEndian.{two, twoAt}
 use Rattle.little_endian.proofs.read_u16.Statement.{statement}
 use Rattle.little_endian.proofs.read_u16.Tie as tie
 
+module _ (s : List ℕ) (at : ℕ) where
+  missing : length s < at + 2 → 0 ≡ twoAt s at
+  unfolding twoAt
+  missing h = rw (lt-leb (at + 2) (length s) h)
+
+  there : at + 2 ≤ length s → two (getD s at 0) (getD s (at + 1) 0) ≡ twoAt s at
+  unfolding twoAt
+  there h = rw (le-leb (at + 2) (length s) h)
+
 returns : tie.Need-returns
-unfolding twoAt
-returns c =
-    let a = c .before .before .args in
-    omega (arith, List·getD-eq-default (a .s .now) 0 {n = a .at} (c .if1 .taken), List·getD-eq-default (a .s .now) 0 {n = a .at + 1} (omega arith))
+returns c = missing _ _ (omega arith)
 
-byte-at-requires : tie.Need-byte-at-requires
-byte-at-requires c κs = search needs
-
-cast-result : tie.Need-cast-result
-cast-result c = search needs
-
-add-byte-at : tie.Need-add-byte-at
-add-byte-at c = search needs
-
-byte-at-requires-2 : tie.Need-byte-at-requires-2
-byte-at-requires-2 c κs = search needs
-
-cast-result-2 : tie.Need-cast-result-2
-cast-result-2 c = search needs
-
-mul-result : tie.Need-mul-result
-mul-result c = search needs
-
-add-result : tie.Need-add-result
-add-result c = search needs
+sub-if2 : tie.Need-sub-if2
+sub-if2 c = search needs
 
 returns-2 : tie.Need-returns-2
-unfolding twoAt
-returns-2 c = search needs
+returns-2 c = missing _ _ (omega arith)
+
+shared-slice-read-two : tie.Need-shared-slice-read-two
+shared-slice-read-two c = search needs
+
+add-two : tie.Need-add-two
+add-two c = search needs
+
+shared-slice-read-two-2 : tie.Need-shared-slice-read-two-2
+shared-slice-read-two-2 c = search needs
+
+two-requires : tie.Need-two-requires
+two-requires c κs = search needs
+
+returns-3 : tie.Need-returns-3
+returns-3 c = c .two .ensures ∙ there _ _ (omega arith)
 
 pub read-u16-spec : {M : Type 1} → statement M
 read-u16-spec =
     tie.close
     (tie.spec
     returns
-    byte-at-requires
-    cast-result
-    add-byte-at
-    byte-at-requires-2
-    cast-result-2
-    mul-result
-    add-result
-    returns-2)
+    sub-if2
+    returns-2
+    shared-slice-read-two
+    add-two
+    shared-slice-read-two-2
+    two-requires
+    returns-3)

@@ -1,8 +1,9 @@
 //! Times of the library beside the same work in plain Rust. The two sides take turns, and which is first changes from run to run, so
 //! that a slow phase of the machine meets both. Times are processor time, medians of nine runs; the ratio is the median of the nine runs'
 //! ratios, with the least and the greatest beside it.
-//! usage: bench [--self] [digest] [moves] [open] [new]   (--self times plain Rust in the library's place; no words: all)
+//! usage: bench [--self] [digest] [moves] [open] [new] [sparse]   (--self times plain Rust in the library's place; no words: all)
 
+use check::generate::sparse::{Chunk, SparseFile, DONT_CARE, FILL, RAW};
 use check::generate::Rng;
 use check::library::outcome_of;
 use check::{hex, Implementation, Library, Plain};
@@ -39,6 +40,9 @@ fn measure<S: Side>(wanted: impl Fn(&str) -> bool) {
     if wanted("new") {
         new_data::<S>();
     }
+    if wanted("sparse") {
+        sparse_files::<S>();
+    }
 }
 
 /// One side of the times. Its state stays in its own form from call to call: `Implementation` would convert it, and that costs.
@@ -49,6 +53,8 @@ trait Side {
     fn open(list: &[u8], lengths: Lengths) -> Result<Self::State, usize>;
     /// How the call ended, and the bytes it took.
     fn call(list: &[u8], areas: Areas, piece: &[u8], state: &mut Self::State) -> (Outcome, usize);
+    /// Nothing, or the refusal's number.
+    fn load_sparse(file: &[u8], image: &mut [u8]) -> Result<(), usize>;
 }
 
 impl Side for Library {
@@ -62,6 +68,9 @@ impl Side for Library {
     fn call(list: &[u8], areas: Areas, piece: &[u8], state: &mut muongrabi::State) -> (Outcome, usize) {
         let called = muongrabi::call(list, areas, piece, state);
         (outcome_of(called.outcome), called.taken)
+    }
+    fn load_sparse(file: &[u8], image: &mut [u8]) -> Result<(), usize> {
+        muongrabi::load_sparse(file, image).map_err(|refusal| refusal.number())
     }
 }
 
@@ -81,6 +90,9 @@ impl Side for Plain {
         let answer = plain::call(list, areas.image, areas.stash, areas.work, piece, *state);
         *state = answer.state;
         (answer.outcome, answer.taken)
+    }
+    fn load_sparse(file: &[u8], image: &mut [u8]) -> Result<(), usize> {
+        plain::load_sparse(file, image)
     }
 }
 
@@ -341,4 +353,44 @@ fn new_times<'a, S: Side>(list: &[u8], image: &mut [u8], pieces: impl Iterator<I
             assert!(!matches!(outcome, Outcome::Refused(_)) && taken == piece.len());
         }
     })
+}
+
+/// Blocks of the image that sparse files are loaded into: 256 MiB.
+const LOADED: usize = 65_536;
+
+fn sparse_files<S: Side>() {
+    let data = some_bytes(LOADED * BLOCK);
+    let start: Vec<u8> = data.iter().map(|byte| !byte).collect();
+    // Each side into an image of its own.
+    let (mut image, mut plain_image) = (start.clone(), start.clone());
+    for (name, kind, blocks) in [
+        ("one raw chunk", RAW, LOADED),
+        // The longest that the field's own tools write.
+        ("raw chunks of 64 MiB", RAW, 16_384),
+        ("raw chunks of one block", RAW, 1),
+        ("one fill", FILL, LOADED),
+        ("fills of one block", FILL, 1),
+        ("don't-care chunks of one block", DONT_CARE, 1),
+    ] {
+        let body = |k: usize| match kind {
+            RAW => data[k * BLOCK..(k + blocks) * BLOCK].to_vec(),
+            FILL => (0x0123_4567 + k as u32).to_le_bytes().to_vec(),
+            _ => Vec::new(),
+        };
+        let file = SparseFile::new((0..LOADED).step_by(blocks).map(|k| Chunk::new(kind, blocks, body(k))).collect()).bytes();
+        image.copy_from_slice(&start);
+        plain_image.copy_from_slice(&start);
+        let times = turns(|| sparse_times::<S>(&file, &mut image), || sparse_times::<Plain>(&file, &mut plain_image));
+        assert!(image == plain_image, "the images differ");
+        match kind {
+            RAW => assert!(image == data),
+            FILL => assert!(image[..4] == body(0) && image != start),
+            _ => assert!(image == start),
+        }
+        line(&format!("sparse, 256 MiB, {name}"), times, if kind == DONT_CARE { 0 } else { image.len() });
+    }
+}
+
+fn sparse_times<S: Side>(file: &[u8], image: &mut [u8]) -> Duration {
+    timed(|| assert_eq!(S::load_sparse(black_box(file), image), Ok(())))
 }

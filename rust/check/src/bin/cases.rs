@@ -1,5 +1,5 @@
-//! Cases made apart from the project, through the library and both implementations of the reference: openings, and sequences of calls with
-//! everything that stands after each.
+//! Cases made apart from the project, through the library and both implementations of the reference: openings, sequences of calls with
+//! everything that stands after each, and sparse files with the image before and after.
 //! usage: tests/unpack CASES | cases
 
 use check::record::{Read, Record};
@@ -34,10 +34,12 @@ fn main() {
 
 /// Ok, or how what the implementation does differs from what the case says.
 fn agrees(case: &Record, on: &dyn Implementation) -> Read<()> {
-    match case.text("kind")? {
-        "open" => opening(case, on),
-        "seq" => sequence(case, on),
-        other => Err(format!("{other} is no kind of case")),
+    match case.text("kind") {
+        Ok("open") => opening(case, on),
+        Ok("seq") => sequence(case, on),
+        Ok(other) => Err(format!("{other} is no kind of case")),
+        // Those of sparse files have none.
+        Err(_) => sparse(case, on),
     }
 }
 
@@ -87,6 +89,47 @@ fn sequence(case: &Record, on: &dyn Implementation) -> Read<()> {
     }
     match cuts.next() {
         Some(_) => Err("more cuts than steps".into()),
+        None => Ok(()),
+    }
+}
+
+/// A file, the image before it, and the image after it where it is loaded: as a whole, or zeros and what changes of them.
+fn sparse(case: &Record, on: &dyn Implementation) -> Read<()> {
+    let number: usize = case.number("number")?;
+    let (before, after) = match (case.has("image_zeros"), number) {
+        (false, 0) => ("image", Some("image_after")),
+        (true, 0) => ("image_zeros", Some("image_changes")),
+        (false, _) => ("image", None),
+        (true, _) => ("image_zeros", None),
+    };
+    // Nothing that the case says is passed over.
+    same("what the case has", case.names(), ["name", "file", "number", before].into_iter().chain(after).collect())?;
+    let file = case.bytes("file")?;
+    let zeros = |length: usize| vec![0u8; length];
+    let mut image = if before == "image" { case.bytes(before)? } else { zeros(case.number(before)?) };
+    let kept = if before == "image" { image.clone() } else { Vec::new() };
+    same("the number", on.load_sparse(&file, &mut image).err().unwrap_or(0), number)?;
+    match (before, after) {
+        ("image", None) => same_image(&image, &kept),
+        ("image", Some(after)) => same_image(&image, &case.bytes(after)?),
+        (_, after) => {
+            for change in after.map_or(Ok(None), |after| case.row(after).map(Some))?.into_iter().flatten() {
+                let (at, bytes): (usize, Vec<u8>) = (case.number(&format!("{change}.0"))?, case.bytes(&format!("{change}.1"))?);
+                let there = at.checked_add(bytes.len()).and_then(|end| image.get_mut(at..end)).ok_or("a change past the image")?;
+                same_image(there, &bytes)?;
+                there.fill(0);
+            }
+            // The rest, by blocks: it may be larger than what memory has for a second one.
+            let zero = [0; 1 << 16];
+            same("all else being 0", image.chunks(zero.len()).all(|part| *part == zero[..part.len()]), true)
+        }
+    }
+}
+
+fn same_image(got: &[u8], expected: &[u8]) -> Read<()> {
+    same("the image's length", got.len(), expected.len())?;
+    match got.iter().zip(expected).position(|(a, b)| a != b) {
+        Some(at) => Err(format!("the image differs at byte {at}")),
         None => Ok(()),
     }
 }

@@ -1,9 +1,10 @@
 //! Compares the proved library with the plain implementation on seeded cases.
-//! usage: differential [--cases N] [--seed S] [--first K] [--self] [--out FOLDER]
-//! --self takes the slow model in the library's place. A failing case is written whole to FOLDER (default: here). In a run of 5,000
-//! cases or more it is a failure too when something of the coverage never occurred.
+//! usage: differential [--sparse] [--cases N] [--seed S] [--first K] [--self] [--out FOLDER]
+//! Lists are run; with --sparse, sparse files are loaded, by the slow model too. --self takes the slow model in the library's place. A failing case
+//! is written whole to FOLDER (default: here). In a run of 5,000 cases or more it is a failure too when something of the coverage never
+//! occurred.
 
-use check::compare::Checker;
+use check::compare::{Checker, Series, SparseChecker};
 use check::{Implementation, Library, Model};
 use std::time::{Instant, SystemTime, UNIX_EPOCH};
 
@@ -15,6 +16,7 @@ fn main() {
     let mut first = 0u64;
     let mut seed = SystemTime::now().duration_since(UNIX_EPOCH).map_or(1, |d| d.as_nanos() as u64);
     let mut itself = false;
+    let mut sparse = false;
     let mut out = ".".to_string();
     let mut words = std::env::args().skip(1);
     while let Some(word) = words.next() {
@@ -25,12 +27,14 @@ fn main() {
             "--first" => first = value().parse().unwrap_or_else(|_| usage()),
             "--out" => out = value(),
             "--self" => itself = true,
+            "--sparse" => sparse = true,
             _ => usage(),
         }
     }
     let other: &dyn Implementation = if itself { &Model } else { &Library };
     println!("seed {seed}");
-    let mut checker = Checker::new(other);
+    let others: &[(&str, &dyn Implementation)] = if itself { &[("model", &Model)] } else { &[("library", &Library), ("model", &Model)] };
+    let checker: &mut dyn Series = if sparse { &mut SparseChecker::new(others) } else { &mut Checker::new(other) };
     let mut failed = 0u64;
     let start = Instant::now();
     for index in first..first + cases {
@@ -46,9 +50,9 @@ fn main() {
             }
         }
     }
-    print!("{}", checker.coverage.report());
+    print!("{}", checker.report());
     println!("{:.1} s", start.elapsed().as_secs_f64());
-    let missing = if cases >= ENOUGH { checker.coverage.missing() } else { Vec::new() };
+    let missing = if cases >= ENOUGH { checker.missing() } else { Vec::new() };
     if !missing.is_empty() {
         println!("never occurred: {}", missing.join("; "));
     }
@@ -57,6 +61,6 @@ fn main() {
 }
 
 fn usage() -> ! {
-    eprintln!("usage: differential [--cases N] [--seed S] [--first K] [--self] [--out FOLDER]");
+    eprintln!("usage: differential [--sparse] [--cases N] [--seed S] [--first K] [--self] [--out FOLDER]");
     std::process::exit(2)
 }

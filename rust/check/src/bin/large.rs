@@ -1,7 +1,9 @@
 //! Real sizes: an image of 65,536 blocks, thousands of commands, stashes of thousands of blocks and a list of several MiB,
-//! the library compared with the plain implementation after every call; then positions at the far end of the largest image.
+//! the library compared with the plain implementation after every call; then positions at the far end of the largest image, and sparse files
+//! over large images.
 //! usage: large [--seed S] [--commands N] [--self]   (--self takes the slow model in the library's place)
 
+use check::generate::sparse::{Chunk, SparseFile, DONT_CARE, FILL, RAW};
 use check::generate::{Blocks, Rng, Sizes, World};
 use check::{Implementation, Library, Model, Plain};
 use reference::{plain, Answer, Outcome, State, BLOCK, MOST_IMAGE};
@@ -23,7 +25,7 @@ fn main() {
     }
     let other: &dyn Implementation = if itself { &Model } else { &Library };
     println!("seed {seed}");
-    let results = [real(other, seed, commands), far_end(other, !itself)];
+    let results = [real(other, seed, commands), far_end(other, !itself), sparse(other, seed), sparse_far_end(other, !itself), sparse_claims(other)];
     let failed = results.iter().filter(|result| result.is_err()).count();
     for difference in results.iter().filter_map(|result| result.as_ref().err()) {
         println!("{difference}");
@@ -140,5 +142,86 @@ fn far_end(other: &dyn Implementation, fast: bool) -> Result<(), String> {
         }
     }
     println!("the far end of 1,048,576 blocks is reached");
+    Ok(())
+}
+
+/// Sparse files over 65,536 blocks, in many chunks and in few.
+fn sparse(other: &dyn Implementation, seed: u64) -> Result<(), String> {
+    let mut rng = Rng::new(seed);
+    let from = Blocks::new();
+    for most in [3, 20_000] {
+        let file = SparseFile::good(&mut rng, &from, 65_536, most);
+        let bytes = file.bytes();
+        let before: Vec<u8> = (0..65_536 * BLOCK).map(|k| (k % 255) as u8 + 1).collect();
+        let (mut ours, mut theirs) = (before.clone(), before);
+        let start = Instant::now();
+        let number = Plain.load_sparse(&bytes, &mut ours);
+        let between = Instant::now();
+        let other_number = other.load_sparse(&bytes, &mut theirs);
+        let end = Instant::now();
+        if number != Ok(()) || other_number != Ok(()) || ours != theirs {
+            return Err(format!("a sparse file of {} chunks: {number:?} and {other_number:?}, images equal: {}", file.count, ours == theirs));
+        }
+        println!(
+            "sparse file of {} bytes, {} chunks; plain {:.2} s, other {:.2} s",
+            bytes.len(),
+            file.count,
+            (between - start).as_secs_f64(),
+            (end - between).as_secs_f64()
+        );
+    }
+    Ok(())
+}
+
+/// The largest image, of which only the last two blocks are written, and one of a block more.
+fn sparse_far_end(other: &dyn Implementation, fast: bool) -> Result<(), String> {
+    let raw: Vec<u8> = (0..BLOCK).map(|k| (k % 251) as u8).collect();
+    for (blocks, want) in [(MOST_IMAGE, Ok(())), (MOST_IMAGE + 1, Err(32))] {
+        let skipped = Chunk::new(DONT_CARE, blocks - 2, Vec::new());
+        let file = SparseFile::new(vec![skipped, Chunk::new(RAW, 1, raw.clone()), Chunk::new(FILL, 1, b"fill".to_vec())]).bytes();
+        let all: Vec<&dyn Implementation> = if fast { vec![&Plain, other] } else { vec![&Plain] };
+        for on in all {
+            // Zeroed memory that is mapped only where it is touched.
+            let mut image = vec![0u8; blocks * BLOCK];
+            let number = on.load_sparse(&file, &mut image);
+            let touched = &image[(blocks - 3) * BLOCK..];
+            let expected = match want {
+                Ok(()) => [vec![0; BLOCK], raw.clone(), b"fill".repeat(BLOCK / 4)].concat(),
+                Err(_) => vec![0; 3 * BLOCK],
+            };
+            if number != want || touched != expected {
+                return Err(format!("a sparse file over {blocks} blocks: {number:?}"));
+            }
+        }
+    }
+    println!("a sparse file reaches the far end of 1,048,576 blocks");
+    Ok(())
+}
+
+/// Small files that claim much are answered at once.
+fn sparse_claims(other: &dyn Implementation) -> Result<(), String> {
+    let all = [&Plain, other];
+    let chunk = |kind: u16, blocks: u32| Chunk { blocks, ..Chunk::new(kind, 0, if kind == FILL { b"fill".to_vec() } else { Vec::new() }) };
+    for (name, chunks, blocks, count, want) in [
+        ("4,294,967,295 chunks of none", vec![], 1, u32::MAX, 33),
+        ("4,294,967,295 chunks of two", vec![chunk(FILL, 1), chunk(DONT_CARE, 1)], 2, u32::MAX, 33),
+        ("4,294,967,295 blocks of the image", vec![chunk(FILL, 1)], u32::MAX, 1, 32),
+        ("4,294,967,295 blocks of a fill", vec![chunk(FILL, u32::MAX)], 1, 1, 34),
+        ("4,294,967,295 blocks of a second don't-care", vec![chunk(FILL, 1), chunk(DONT_CARE, u32::MAX)], 2, 2, 34),
+        ("4,294,967,295 blocks of a raw", vec![chunk(RAW, u32::MAX)], 1, 1, 33),
+    ] {
+        let mut file = SparseFile::new(vec![]);
+        (file.chunks, file.blocks, file.count) = (chunks, blocks, count);
+        let bytes = file.bytes();
+        for on in all {
+            let mut image = vec![7; (blocks % 8) as usize * BLOCK];
+            let start = Instant::now();
+            let number = on.load_sparse(&bytes, &mut image);
+            if number != Err(want) || image.iter().any(|byte| *byte != 7) || start.elapsed() > Duration::from_secs(1) {
+                return Err(format!("{name}: {number:?}, not {want}, after {:?}", start.elapsed()));
+            }
+        }
+    }
+    println!("sparse files that claim 4,294,967,295 chunks or blocks are answered at once");
     Ok(())
 }

@@ -6,8 +6,8 @@ use reference::{model, plain, Outcome, State, BLOCK};
 use std::iter::repeat;
 
 impl Checker<'_> {
-    /// One case; the difference, if there is one.
-    pub fn case(&mut self, seed: u64, index: u64) -> Result<(), String> {
+    /// One list, with its areas and its data.
+    pub(super) fn list_case(&mut self, seed: u64, index: u64) -> Result<(), String> {
         let mut rng = Rng::of_case(seed, index);
         self.behind = rng.percent(70);
         if rng.one_in(20) {

@@ -2,13 +2,26 @@
 
 mod case;
 mod odd;
+mod sparse;
 
 use crate::coverage::Coverage;
 use crate::generate::{Blocks, Pieces};
 use crate::guard::Guarded;
 use crate::{hex, Implementation};
 use reference::{plain, Answer, Lengths, State, BLOCK};
+pub use sparse::SparseChecker;
 use std::fmt::Write;
+
+/// Seeded cases, each by its number, and what occurred in them.
+pub trait Series {
+    /// One case; the difference, if there is one.
+    fn case(&mut self, seed: u64, index: u64) -> Result<(), String>;
+    /// The case again, written out whole.
+    fn written(&mut self, seed: u64, index: u64) -> String;
+    fn report(&self) -> String;
+    /// What never occurred, of all that a default run must have.
+    fn missing(&self) -> Vec<String>;
+}
 
 /// What is lent to the plain implementation.
 #[derive(Clone)]
@@ -30,7 +43,7 @@ pub struct Checker<'a> {
     behind: bool,
     blocks: Blocks,
     log: Option<String>,
-    pub coverage: Coverage,
+    coverage: Coverage,
 }
 
 fn state_text(state: &State) -> String {
@@ -55,6 +68,30 @@ fn first_difference(a: &[u8], b: &[u8]) -> usize {
     a.iter().zip(b).position(|(x, y)| x != y).unwrap_or(a.len().min(b.len()))
 }
 
+impl Series for Checker<'_> {
+    fn case(&mut self, seed: u64, index: u64) -> Result<(), String> {
+        self.list_case(seed, index)
+    }
+
+    fn written(&mut self, seed: u64, index: u64) -> String {
+        self.log = Some(format!("seed {seed} case {index}\n"));
+        let kept = self.coverage.clone();
+        let end = self.case(seed, index);
+        self.coverage = kept;
+        let mut text = self.log.take().unwrap_or_default();
+        let _ = writeln!(text, "{}", end.err().unwrap_or("no difference this time".into()));
+        text
+    }
+
+    fn report(&self) -> String {
+        self.coverage.report()
+    }
+
+    fn missing(&self) -> Vec<String> {
+        self.coverage.missing()
+    }
+}
+
 impl<'a> Checker<'a> {
     pub fn new(other: &'a dyn Implementation) -> Checker<'a> {
         let room = || Guarded::new(64 * BLOCK);
@@ -70,17 +107,6 @@ impl<'a> Checker<'a> {
             log: None,
             coverage: Coverage::default(),
         }
-    }
-
-    /// The case again, written out whole.
-    pub fn written(&mut self, seed: u64, index: u64) -> String {
-        self.log = Some(format!("seed {seed} case {index}\n"));
-        let kept = self.coverage.clone();
-        let end = self.case(seed, index);
-        self.coverage = kept;
-        let mut text = self.log.take().unwrap_or_default();
-        let _ = writeln!(text, "{}", end.err().unwrap_or("no difference this time".into()));
-        text
     }
 
     fn note(&mut self, text: impl FnOnce() -> String) {

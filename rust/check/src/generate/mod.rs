@@ -1,4 +1,4 @@
-//! Seeded cases: good lists with everything that the rules allow, and the ways to spoil lists, states and lengths.
+//! Seeded cases: good lists and sparse files with everything that the rules allow, and the ways to spoil lists, states, lengths and files.
 
 mod blocks;
 mod command;
@@ -8,6 +8,7 @@ mod lines;
 mod pieces;
 mod rng;
 mod sets;
+pub mod sparse;
 mod spoil;
 mod states;
 mod world;

@@ -2,9 +2,11 @@
 //! collected before the lowest is taken, and new data goes byte by byte. It guards the plain loops against slips.
 
 mod read;
+mod sparse;
 
 use crate::{digest, Answer, Lengths, Outcome, Refusal, State, BLOCK};
 use read::{blocks, decode, past, rules, size, Command, Ranges, Rules, Source};
+pub use sparse::load_sparse;
 
 /// The stashes a state holds: hash and blocks, oldest first.
 fn stashes(state: &State) -> Vec<(Vec<u8>, u64)> {

@@ -5,9 +5,11 @@ mod check;
 mod command;
 mod header;
 mod open;
+mod sparse;
 mod stashes;
 mod text;
 
 pub use call::{call, run};
 pub use header::{header, Header};
 pub use open::open;
+pub use sparse::load_sparse;

@@ -6,20 +6,20 @@ use Rattle.decisions.proofs.answer.answer_line.Tie as tie
 enum-told : tie.Need-enum-told
 enum-told c = search needs
 
-slice-aggregate-taken-line : tie.Need-slice-aggregate-taken-line
-slice-aggregate-taken-line c = search needs
+slice-aggregate-number-line : tie.Need-slice-aggregate-number-line
+slice-aggregate-number-line c = search needs
 
-taken-line-requires : tie.Need-taken-line-requires
-taken-line-requires c κs = search needs
+number-line-requires : tie.Need-number-line-requires
+number-line-requires c κs = search needs
 
 enum-told-2 : tie.Need-enum-told-2
 enum-told-2 c = search needs
 
-slice-aggregate-taken-line-2 : tie.Need-slice-aggregate-taken-line-2
-slice-aggregate-taken-line-2 c = search needs
+slice-aggregate-number-line-2 : tie.Need-slice-aggregate-number-line-2
+slice-aggregate-number-line-2 c = search needs
 
-taken-line-requires-2 : tie.Need-taken-line-requires-2
-taken-line-requires-2 c κs = search needs
+number-line-requires-2 : tie.Need-number-line-requires-2
+number-line-requires-2 c κs = search needs
 
 enum-known-outcome : tie.Need-enum-known-outcome
 enum-known-outcome c = search needs
@@ -28,10 +28,10 @@ refused-line-requires : tie.Need-refused-line-requires
 refused-line-requires c κs = search needs
 
 returns : tie.Need-returns
-returns c = rw (c .before .before .enum-told .given .1) (c .taken-line .ensures)
+returns c = rw (c .before .before .enum-told .given .1) (c .number-line .ensures)
 
 returns-2 : tie.Need-returns-2
-returns-2 c = rw (c .before .before .enum-told2 .given .1) (c .taken-line2 .ensures)
+returns-2 c = rw (c .before .before .enum-told2 .given .1) (c .number-line2 .ensures)
 
 returns-3 : tie.Need-returns-3
 returns-3 c = rw (c .before .before .outcome .given .1) (c .refused-line .ensures)
@@ -41,11 +41,11 @@ answer-line-spec =
     tie.close
     (tie.spec
     enum-told
-    slice-aggregate-taken-line
-    taken-line-requires
+    slice-aggregate-number-line
+    number-line-requires
     enum-told-2
-    slice-aggregate-taken-line-2
-    taken-line-requires-2
+    slice-aggregate-number-line-2
+    number-line-requires-2
     enum-known-outcome
     refused-line-requires
     returns

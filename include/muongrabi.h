@@ -120,7 +120,7 @@ static inline const char *muongrabi_refusal_text(size_t number)
         "the file is no sparse file of major version 1: its header is cut short, or the mark or the version in it is another",
         "the sparse file's header sizes are not 28 and 12, or its block size is not 4096",
         "the image does not have as many blocks as the sparse file says, or the file says more than 1048576 of them",
-        "a chunk of the sparse file is cut short, of an unknown type, of no blocks, or of another length than it says",
+        "a chunk of the sparse file is cut short, of an unknown type, of no blocks, or says another length than it must have",
         "a chunk of the sparse file ends past the image",
         "the sparse file has a checksum chunk (0xCAC4), which is not supported",
         "the sparse file's chunks end before the image does, or there are bytes after the last of them",
@@ -235,9 +235,9 @@ muongrabi_answer muongrabi_run(const uint8_t *list, size_t list_length,
 /*
  * Loads a sparse file into the image, which has as many blocks as the file's header says (a number of 32 bits, little-endian, at its byte 16):
  * a raw chunk's blocks get the bytes it carries, a fill's blocks its four bytes over and over, and don't-care blocks keep what the image has.
- * Gives 0, or 30 to 36: that of the header, else the earliest faulty chunk's lowest, else that of the end. The whole file is checked before
- * the first byte is written, so a file that is refused leaves the image as it was. Minor version, checksum field and reserved bytes are not
- * looked at.
+ * Gives 0, or 30 to 36: that of the header, else the earliest faulty chunk's lowest (a 0xCAC4 chunk is always 35), else that of the end. The
+ * whole file is checked before the first byte is written, so a file that is refused leaves the image as it was. Minor version, checksum
+ * field and reserved bytes are not looked at.
  */
 uint32_t muongrabi_sparse_load(const uint8_t *file, size_t file_length, uint8_t *image, size_t image_length);
 

@@ -2,8 +2,8 @@
  * Loads a sparse file into an image: load_sparse FILE IMAGE
  *
  * FILE is an Android sparse file. Where it leaves blocks out, IMAGE keeps its own; where there is no IMAGE, it is made, of zeros as far as FILE
- * leaves blocks out. Prints `done B` (B: blocks of the image) or `refused: ` and why; a refused file leaves IMAGE alone. Exit status: 0
- * done, 1 refused, 2 for a file that cannot be read or written.
+ * leaves blocks out. Prints `loaded B` (B: blocks of the image) or `refused: ` and why; a refused file leaves IMAGE alone. Exit status: 0
+ * loaded, 1 refused, 2 for a file that cannot be read or written.
  */
 #include <errno.h>
 #include <stdio.h>
@@ -73,7 +73,7 @@ int main(int argc, char **argv)
         FILE *to = fopen(argv[2], mode);
         if (!to) fail(argv[2]);
         if (fwrite(image, 1, image_length, to) != image_length || fclose(to) != 0) fail(argv[2]);
-        printf("done %zu\n", image_length / MUONGRABI_BLOCK);
+        printf("loaded %zu\n", image_length / MUONGRABI_BLOCK);
     }
 
     free(file);

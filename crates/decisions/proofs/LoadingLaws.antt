@@ -10,7 +10,7 @@ use borrow.Author.Tests.{ltb-false}
 use Rattle.text.specs.Choice.{pick}
 use Rattle.text.proofs.ChoiceLaws.{picks}
 use Rattle.state.specs.Limits.{blockBytes}
-use Rattle.sparse.specs.Header.{totalBlocks}
+use Rattle.sparse_file.specs.Header.{totalBlocks}
 use Rattle.decisions.specs.Program.{mostBlocks}
 use Rattle.decisions.specs.Loading.{mostSparse, tooLarge, lentBytes}
 

@@ -9,15 +9,15 @@ use lib.Dec.{ltb, eqb}
 use Rattle.text.specs.Choice.{pick}
 use Rattle.state.specs.Limits.{blockBytes}
 use Rattle.state.specs.Refusals.{none}
-use Rattle.sparse.specs.Header.{totalBlocks}
+use Rattle.sparse_file.specs.Header.{totalBlocks}
 use Rattle.decisions.specs.Program.{mostBlocks, mostImage}
 use Rattle.decisions.specs.Answer.{refusedWord, numberLine}
 
--- a file of at most 65,536 bytes, twice what an image of 8 blocks has
+-- a file of at most 65,536 bytes: twice what an image of 8 blocks has, and more than any file that is read over one
 abbrev pub mostSparse : ℕ
 mostSparse = 2 * mostImage
 
--- no header has the blocks of such an image, so that it is refused with 32
+-- no header has the blocks of such an image: with a good header it is refused with 32
 abbrev pub tooLarge : ℕ
 tooLarge = mostImage + 1
 

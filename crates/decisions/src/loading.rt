@@ -3,7 +3,7 @@ ghost use mathlib.Core.Path.{_≡_};
 ghost use Rattle.decisions.specs.Loading.{lentBytes};
 use crate::IMAGE_BLOCKS;
 use crate::IMAGE_BYTES;
-use sparse::header::total_blocks;
+use sparse_file::header::total_blocks;
 use state::limits::BLOCK_BYTES;
 
 pub const SPARSE_BYTES: usize = 2 * IMAGE_BYTES;

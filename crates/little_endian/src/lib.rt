@@ -21,6 +21,7 @@ pub fn read_u16(s: &[u8], at: usize) -> u16
     two(s[at], s[at + 1])
 }
 
+// The same of four bytes.
 pub fn read_u32(s: &[u8], at: usize) -> u32
     ensures { λ r. ⌜ r ≡ fourAt (now (s .entry)) at ⌝ }
 {

@@ -1,5 +1,5 @@
 // An update in three files: a transfer list, an image and new data. They are read, the list is run over the image in memory, and the
-// image is written back.
+// image is written back. `load` does the same with a sparse file.
 //
 // No contract can speak of a file. What is decided about files is in the crate `decisions`, where each function has its equation.
 ghost use Prim.Native.Nat.{_≤_};
@@ -10,7 +10,8 @@ use crate::read::Loaded;
 use crate::read::Opened;
 use crate::read::check_opened;
 use crate::read::fill;
-use crate::read::load;
+use crate::read::read_file;
+use crate::standard::hold_standard;
 use crate::write_back::write_back;
 use decisions::AREA_BYTES;
 use decisions::IMAGE_BYTES;
@@ -27,6 +28,7 @@ use updater::call;
 
 pub mod load;
 mod read;
+mod standard;
 mod write_back;
 
 // A buffer has room for one byte too many, which tells a file that is too long.
@@ -136,8 +138,11 @@ fn update_opened(
 // Applies an update and prints the answer line. A file that is there and cannot be read, or an image that cannot be written, gets a
 // message on standard error instead. The copy is what is about to be written, kept while the image is written.
 pub fn update(list_path: &[u8], image_path: &[u8], data_path: &[u8], copy_path: &[u8]) {
+    if !hold_standard() {
+        return;
+    }
     let mut list = [0u8; LIST_ROOM];
-    let Loaded::Bytes(n) = load(list_path, &mut list) else {
+    let Loaded::Bytes(n) = read_file(list_path, &mut list) else {
         return;
     };
     let Opened::At(image) = check_opened(os::open_update(image_path), image_path) else {

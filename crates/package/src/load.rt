@@ -5,7 +5,8 @@ use crate::read::Loaded;
 use crate::read::Opened;
 use crate::read::check_opened;
 use crate::read::fill;
-use crate::read::load;
+use crate::read::read_file;
+use crate::standard::hold_standard;
 use crate::write_back::make_image;
 use crate::write_back::write_back;
 use decisions::answer::load_line;
@@ -52,8 +53,11 @@ fn load_opened(file: &[u8], image_file: i32, image_path: &[u8], copy_path: &[u8]
 // Reads a sparse file over an image file and prints the answer line. A file that is there and cannot be read, or an image that cannot be
 // written, gets a message on standard error instead. The copy is what is about to be written, kept while the image is written.
 pub fn load_sparse(file_path: &[u8], image_path: &[u8], copy_path: &[u8]) {
+    if !hold_standard() {
+        return;
+    }
     let mut file = [0u8; SPARSE_ROOM];
-    let Loaded::Bytes(n) = load(file_path, &mut file) else {
+    let Loaded::Bytes(n) = read_file(file_path, &mut file) else {
         return;
     };
     let Opened::At(image) = check_opened(os::open_update(image_path), image_path) else {

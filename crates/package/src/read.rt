@@ -46,7 +46,7 @@ pub(crate) fn fill(fd: i32, path: &[u8], buf: &mut [u8]) -> Loaded
     Loaded::Bytes(n)
 }
 
-pub(crate) fn load(path: &[u8], buf: &mut [u8]) -> Loaded
+pub(crate) fn read_file(path: &[u8], buf: &mut [u8]) -> Loaded
     ensures { λ r. ⌜ Fills (now (buf .exit)) r ⌝ }
 {
     let Opened::At(fd) = check_opened(os::open_read(path), path) else {

@@ -1,6 +1,6 @@
 // Writing the image back where it lies: the file keeps its name, owner and mode, and a link stays a link. A power cut can leave such a
-// write half done, so a synced copy of the new image stands beside it until the image itself is synced. An image that is new is made under
-// the copy's name, and gets its own when it is whole.
+// write half done, so a synced copy of the new image stands beside it until the image itself is synced. A new image
+// is such a copy, which gets the image's name.
 ghost use Rattle.io.specs.Counts.{Counts};
 use libc::SEEK_CUR;
 use libc::SEEK_SET;
@@ -40,9 +40,6 @@ fn sync_folder(path: &[u8]) -> bool {
 
 // The copy is one byte too long until its bytes are synced: one of the image's length is whole.
 fn write_copy(fd: i32, image: &[u8]) -> bool {
-    if libc::fchmod(fd, 0o600) != 0 {
-        return false;
-    }
     if !io::write_all(fd, image) {
         return false;
     }
@@ -59,14 +56,29 @@ fn write_copy(fd: i32, image: &[u8]) -> bool {
     libc::fsync(fd) == 0
 }
 
+// A copy of an image that is there may be read by its owner alone, as the image may be.
+fn write_private(fd: i32, image: &[u8]) -> bool {
+    if libc::fchmod(fd, 0o600) != 0 {
+        return false;
+    }
+    write_copy(fd, image)
+}
+
+fn write_new(fd: i32, image: &[u8], private: bool) -> bool {
+    if private {
+        return write_private(fd, image);
+    }
+    write_copy(fd, image)
+}
+
 // Makes the copy, unless its name is taken.
-fn keep_copy(path: &[u8], image: &[u8]) -> bool {
+fn keep_copy(path: &[u8], image: &[u8], private: bool) -> bool {
     let fd = os::create(path);
     if fd < 0 {
         os::fail(path);
         return false;
     }
-    let written = write_copy(fd, image);
+    let written = write_new(fd, image, private);
     libc::close(fd);
     if written {
         if sync_folder(path) {
@@ -78,18 +90,14 @@ fn keep_copy(path: &[u8], image: &[u8]) -> bool {
     false
 }
 
-fn write_synced(fd: i32, image: &[u8]) -> bool {
-    if !io::write_all(fd, image) {
-        return false;
-    }
-    libc::fsync(fd) == 0
-}
-
 fn overwrite(fd: i32, image: &[u8]) -> bool {
     if libc::lseek(fd, 0, SEEK_SET) != 0 {
         return false;
     }
-    write_synced(fd, image)
+    if !io::write_all(fd, image) {
+        return false;
+    }
+    libc::fsync(fd) == 0
 }
 
 // Writes the image over its file. Where that fails, the copy stays: it alone is whole then.
@@ -97,7 +105,7 @@ pub(crate) fn write_back(fd: i32, path: &[u8], copy_path: &[u8], image: &[u8]) -
     if image.len() == 0 {
         return true;
     }
-    if !keep_copy(copy_path, image) {
+    if !keep_copy(copy_path, image, true) {
         return false;
     }
     if !overwrite(fd, image) {
@@ -110,28 +118,22 @@ pub(crate) fn write_back(fd: i32, path: &[u8], copy_path: &[u8], image: &[u8]) -
     true
 }
 
-// Makes the image file. Where that fails, nothing of it stays.
+// Makes the image file, where there is none: a whole copy gets its name. Where the name is not sure to last, the image is there all the same.
 pub(crate) fn make_image(path: &[u8], copy_path: &[u8], image: &[u8]) -> bool {
     if image.len() == 0 {
         return true;
     }
-    let fd = os::create(copy_path);
-    if fd < 0 {
-        os::fail(copy_path);
+    if !keep_copy(copy_path, image, false) {
         return false;
     }
-    let written = write_synced(fd, image);
-    libc::close(fd);
-    if written {
-        if os::rename(copy_path, path) == 0 {
-            if sync_folder(path) {
-                return true;
-            }
-            os::fail(path);
-            return false;
-        }
+    if os::rename(copy_path, path) != 0 {
+        os::fail(path);
+        os::unlink(copy_path);
+        return false;
     }
-    os::fail(copy_path);
-    os::unlink(copy_path);
-    false
+    if !sync_folder(path) {
+        os::fail(path);
+        return false;
+    }
+    true
 }

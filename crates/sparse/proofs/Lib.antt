@@ -1,4 +1,2 @@
-pub mod ChunkLaws
-pub mod ChunksLaws
 pub mod LoadingLaws
 pub mod NumberLaws

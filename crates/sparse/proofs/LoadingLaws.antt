@@ -13,13 +13,13 @@ use Rattle.state.specs.Limits.{blockBytes}
 use Rattle.state.specs.Refusals.{none}
 use Rattle.text.proofs.ChoiceLaws.{no-false}
 use Rattle.text.proofs.RowsLaws.{none-applies}
-use Rattle.sparse.specs.Header.{totalBlocks, headerRefusal, imageRows, imageRefusal}
-use Rattle.sparse.specs.Chunk.{fillBytes, bodyBytes}
-use Rattle.sparse.specs.Chunks.{Chunks, follow, chunksOf}
+use Rattle.sparse_file.specs.Header.{totalBlocks, headerRefusal, imageRows, imageRefusal}
+use Rattle.sparse_file.specs.Chunk.{fillBytes, bodyBytes}
+use Rattle.sparse_file.specs.Chunks.{Chunks, follow, chunksOf}
 use Rattle.sparse.specs.Loading.{orElse, loadRefusal, repeated, bodyOf, bodyOver, chunkOver, chunksOver, loadedImage}
-use Rattle.sparse.specs.declared.chunk.Kind.{Kind}
-use Rattle.sparse.specs.declared.chunk.Kind.the-variants.{Raw, Fill, DontCare}
-use Rattle.sparse.specs.declared.chunk.Chunk.{Chunk}
+use Rattle.sparse_file.specs.declared.chunk.Kind.{Kind}
+use Rattle.sparse_file.specs.declared.chunk.Kind.the-variants.{Raw, Fill, DontCare}
+use Rattle.sparse_file.specs.declared.chunk.Chunk.{Chunk}
 
 -- ---- a fill's bytes, again and again
 

@@ -1,4 +1,1 @@
-pub mod Header
-pub mod Chunk
-pub mod Chunks
 pub mod Loading

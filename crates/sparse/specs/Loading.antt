@@ -8,12 +8,12 @@ use Rattle.text.specs.Choice.{pick}
 use Rattle.copy.specs.Over.{over}
 use Rattle.state.specs.Limits.{blockBytes}
 use Rattle.state.specs.Refusals.{none}
-use Rattle.sparse.specs.Header.{headerRefusal, imageRefusal, totalBlocks}
-use Rattle.sparse.specs.Chunk.{fillBytes, bodyBytes}
-use Rattle.sparse.specs.Chunks.{chunksOf}
-use Rattle.sparse.specs.declared.chunk.Kind.{Kind}
-use Rattle.sparse.specs.declared.chunk.Kind.the-variants.{Raw, Fill, DontCare}
-use Rattle.sparse.specs.declared.chunk.Chunk.{Chunk}
+use Rattle.sparse_file.specs.Header.{headerRefusal, imageRefusal, totalBlocks}
+use Rattle.sparse_file.specs.Chunk.{fillBytes, bodyBytes}
+use Rattle.sparse_file.specs.Chunks.{chunksOf}
+use Rattle.sparse_file.specs.declared.chunk.Kind.{Kind}
+use Rattle.sparse_file.specs.declared.chunk.Kind.the-variants.{Raw, Fill, DontCare}
+use Rattle.sparse_file.specs.declared.chunk.Chunk.{Chunk}
 
 -- the first number, or the second where the first is none
 abbrev pub orElse : ℕ → ℕ → ℕ

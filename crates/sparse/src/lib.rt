@@ -2,14 +2,11 @@
 ghost use mathlib.Core.Path.{_≡_};
 ghost use lib.ListN.{length};
 ghost use Rattle.sparse.specs.Loading.{loadRefusal, loadedImage};
-use crate::chunks::check_chunks;
-use crate::header::check_header;
-use crate::header::check_image;
 use crate::write::write_chunks;
+use sparse_file::chunks::check_chunks;
+use sparse_file::header::check_header;
+use sparse_file::header::check_image;
 
-pub mod chunk;
-pub mod chunks;
-pub mod header;
 mod write;
 
 // Whether a file can be read over an image of so many bytes: the number of its refusal, 0 for none. It reads the whole file.

@@ -3,18 +3,18 @@ ghost use mathlib.Core.Path.{_≡_};
 ghost use Prim.Native.Nat.{_+_, _*_, _/_, _%_, _≤_};
 ghost use lib.ListN.{length};
 ghost use Rattle.state.specs.Limits.{blockBytes};
-ghost use Rattle.sparse.specs.Header.{totalBlocks};
-ghost use Rattle.sparse.specs.Chunk.{fillBytes, bodyBytes};
-ghost use Rattle.sparse.specs.Chunks.{chunksOf};
+ghost use Rattle.sparse_file.specs.Header.{totalBlocks};
+ghost use Rattle.sparse_file.specs.Chunk.{fillBytes, bodyBytes};
+ghost use Rattle.sparse_file.specs.Chunks.{chunksOf};
 ghost use Rattle.sparse.specs.Loading.{repeated, chunkOver, chunksOver};
-use crate::chunk::Chunk;
-use crate::chunk::ChunkRead;
-use crate::chunk::Kind;
-use crate::chunk::read_chunk;
-use crate::header::HEADER_BYTES;
-use crate::header::total_blocks;
-use crate::header::total_chunks;
 use copy::copy_in;
+use sparse_file::chunk::Chunk;
+use sparse_file::chunk::ChunkRead;
+use sparse_file::chunk::Kind;
+use sparse_file::chunk::read_chunk;
+use sparse_file::header::HEADER_BYTES;
+use sparse_file::header::total_blocks;
+use sparse_file::header::total_chunks;
 use state::limits::BLOCK_BYTES;
 
 // Four bytes over all of a part, again and again.

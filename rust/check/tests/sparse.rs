@@ -125,7 +125,7 @@ fn the_image() {
     for (image, want) in [(6 * BLOCK, 0), (6 * BLOCK - 1, 32), (6 * BLOCK + 1, 32), (5 * BLOCK, 32), (7 * BLOCK, 32), (0, 32)] {
         assert_eq!(number_over(&bytes, image), want);
     }
-    for blocks in [5, 7, 6 + 65_536, 6 + (1 << 20), 1 << 20, (1 << 20) + 1, 1 << 31, u32::MAX, 0] {
+    for blocks in [5, 7, 6 + 65_536, 6 + (1 << 20), 6 + (1 << 24), 1 << 20, (1 << 20) + 1, 1 << 31, u32::MAX, 0] {
         assert_eq!(number_over(&altered(|file| file.blocks = blocks).bytes(), 6 * BLOCK), 32, "{blocks}");
     }
     // 1,048,576 blocks are 2^32 bytes, and so are none in 32 bits.
@@ -157,7 +157,8 @@ fn a_chunk() {
     }
     for k in 0..4 {
         let total = good().chunks[k].total;
-        for other in [0, 11, 12, 13, 15, 16, 17, total - 1, total + 1, total - 12, total + 65_536, total + BLOCK as u32, u32::MAX] {
+        for other in [0, 11, 12, 13, 15, 16, 17, total - 1, total + 1, total - 12, total + 65_536, total + (1 << 24), total + BLOCK as u32, u32::MAX]
+        {
             let want = if other == total { 0 } else { 33 };
             assert_eq!(number(&altered(|file| file.chunks[k].total = other)), want, "{k} {other}");
         }

@@ -1,8 +1,8 @@
 //! Loads a sparse file into an image: load_sparse FILE IMAGE
 //!
 //! FILE is an Android sparse file. Where it leaves blocks out, IMAGE keeps its own; where there is no IMAGE, it is made, of zeros as far as FILE
-//! leaves blocks out. Prints `done B` (B: blocks of the image) or `refused: ` and why; a refused file leaves IMAGE alone. Exit status: 0
-//! done, 1 refused, 2 for a file that cannot be read or written.
+//! leaves blocks out. Prints `loaded B` (B: blocks of the image) or `refused: ` and why; a refused file leaves IMAGE alone. Exit status: 0
+//! loaded, 1 refused, 2 for a file that cannot be read or written.
 
 use muongrabi::{load_sparse, Refusal, BLOCK, MOST_IMAGE};
 use std::fs::{self, OpenOptions};
@@ -43,7 +43,7 @@ fn main() -> ExitCode {
     };
     match load(file, image) {
         Ok(Ok(blocks)) => {
-            println!("done {blocks}");
+            println!("loaded {blocks}");
             ExitCode::SUCCESS
         }
         Ok(Err(refusal)) => {

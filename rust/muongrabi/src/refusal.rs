@@ -105,7 +105,9 @@ impl Refusal {
             }
             Refusal::SPARSE_SIZES => "the sparse file's header sizes are not 28 and 12, or its block size is not 4096",
             Refusal::SPARSE_IMAGE => "the image does not have as many blocks as the sparse file says, or the file says more than 1048576 of them",
-            Refusal::SPARSE_CHUNK => "a chunk of the sparse file is cut short, of an unknown type, of no blocks, or of another length than it says",
+            Refusal::SPARSE_CHUNK => {
+                "a chunk of the sparse file is cut short, of an unknown type, of no blocks, or says another length than it must have"
+            }
             Refusal::SPARSE_PAST_IMAGE => "a chunk of the sparse file ends past the image",
             Refusal::SPARSE_CHECKSUM => "the sparse file has a checksum chunk (0xCAC4), which is not supported",
             Refusal::SPARSE_END => "the sparse file's chunks end before the image does, or there are bytes after the last of them",

@@ -7,14 +7,20 @@ use Rattle.package.proofs.update.Statement.{statement}
 use Rattle.package.proofs.update.Tie as tie
 
 -- what was read of the list lies in its buffer
-list-read : (c : tie.After-n) → Counts (c .n .given .0 .0) (c .before .before .before .load .last .1 .0)
-list-read c = subst (Fills _) (c .n .given .1) (c .before .before .before .load .ensures)
+list-read : (c : tie.After-n) → Counts (c .n .given .0 .0) (c .before .before .before .read-file .last .1 .0)
+list-read c = subst (Fills _) (c .n .given .1) (c .before .before .before .read-file .ensures)
 
-slice-aggregate-load : tie.Need-slice-aggregate-load
-slice-aggregate-load c = search needs
+hold-standard-requires : tie.Need-hold-standard-requires
+hold-standard-requires c κs = search needs
 
-load-requires : tie.Need-load-requires
-load-requires c κs = search needs
+returns : tie.Need-returns
+returns c = search needs
+
+slice-aggregate-read-file : tie.Need-slice-aggregate-read-file
+slice-aggregate-read-file c = search needs
+
+read-file-requires : tie.Need-read-file-requires
+read-file-requires c κs = search needs
 
 enum-known-n : tie.Need-enum-known-n
 enum-known-n c = search needs
@@ -22,8 +28,8 @@ enum-known-n c = search needs
 enum-told : tie.Need-enum-told
 enum-told c = search needs
 
-returns : tie.Need-returns
-returns c = search needs
+returns-2 : tie.Need-returns-2
+returns-2 c = search needs
 
 open-update-requires : tie.Need-open-update-requires
 open-update-requires c κs = search needs
@@ -37,8 +43,8 @@ enum-known-image c = search needs
 enum-told-2 : tie.Need-enum-told-2
 enum-told-2 c = search needs
 
-returns-2 : tie.Need-returns-2
-returns-2 c = search needs
+returns-3 : tie.Need-returns-3
+returns-3 c = search needs
 
 open-read-requires : tie.Need-open-read-requires
 open-read-requires c κs = search needs
@@ -55,8 +61,8 @@ enum-told-3 c = search needs
 close-requires : tie.Need-close-requires
 close-requires c κs = search needs
 
-returns-3 : tie.Need-returns-3
-returns-3 c = search needs
+returns-4 : tie.Need-returns-4
+returns-4 c = search needs
 
 array-share-prefix-list : tie.Need-array-share-prefix-list
 array-share-prefix-list c = list-read (c .before .before .before .before .before .before .before .before .before .before .before) .0
@@ -73,32 +79,34 @@ close-requires-2 c κs = search needs
 close-requires-3 : tie.Need-close-requires-3
 close-requires-3 c κs = search needs
 
-returns-4 : tie.Need-returns-4
-returns-4 c = search needs
+returns-5 : tie.Need-returns-5
+returns-5 c = search needs
 
 pub update-spec : {M : Type 1} → statement M
 update-spec =
     tie.close
     (tie.spec
-    slice-aggregate-load
-    load-requires
+    hold-standard-requires
+    returns
+    slice-aggregate-read-file
+    read-file-requires
     enum-known-n
     enum-told
-    returns
+    returns-2
     open-update-requires
     check-opened-requires
     enum-known-image
     enum-told-2
-    returns-2
+    returns-3
     open-read-requires
     check-opened-requires-2
     enum-known-data
     enum-told-3
     close-requires
-    returns-3
+    returns-4
     array-share-prefix-list
     slice-aggregate-update-opened
     update-opened-requires
     close-requires-2
     close-requires-3
-    returns-4)
+    returns-5)

@@ -1,7 +1,7 @@
 //! Loads a sparse file: load plain|model FILE IMAGE
 //!
-//! Where there is no IMAGE it starts from zeros, as many as FILE's header says. Prints `done` or `refused N`; a refused file leaves IMAGE as it
-//! was. Exit status: 0 done, 1 refused, 2 for a file that cannot be read or written.
+//! Where there is no IMAGE it starts from zeros, as many as FILE's header says. Prints `loaded B` (its blocks) or `refused N`; a refused file leaves IMAGE as it
+//! was. Exit status: 0 loaded, 1 refused, 2 for a file that cannot be read or written.
 
 use reference::{model, plain, BLOCK, MOST_IMAGE};
 use std::fs;
@@ -36,5 +36,5 @@ fn main() {
         std::process::exit(1);
     }
     fs::write(image, &bytes).unwrap_or_else(|error| fail(image, error));
-    println!("done");
+    println!("loaded {}", bytes.len() / BLOCK);
 }

@@ -8,7 +8,7 @@ use lib.ListN.{length}
 use borrow.Author.Needs.{needs}
 use borrow.Author.Tests.{lt-ltb, le-ltb}
 use Rattle.state.specs.Limits.{blockBytes}
-use Rattle.sparse.specs.Header.{totalBlocks}
+use Rattle.sparse_file.specs.Header.{totalBlocks}
 use Rattle.decisions.specs.Program.{mostBlocks}
 use Rattle.decisions.specs.Loading.{mostSparse, tooLarge, lentBytes}
 use Rattle.decisions.proofs.loading.lent_bytes.Statement.{statement}

@@ -6,7 +6,7 @@ use Prim.Native.Nat.{ℕ, _-_, _/_, _%_, _≤_, _<_}
 use native.Mathlib.Omega.{arith}
 use lib.ListN.{length, length-set}
 use lib.Seq.{take-all, drop-length}
-use Rattle.sparse.specs.Chunk.{fillBytes}
+use Rattle.sparse_file.specs.Chunk.{fillBytes}
 use Rattle.sparse.specs.Loading.{repeated}
 use Rattle.sparse.proofs.LoadingLaws.{length-repeated, filled, fill-more}
 use Rattle.sparse.proofs.write.fill_in.Statement.{statement}

@@ -6,10 +6,10 @@ use Prim.Native.Nat.{_≤_}
 use native.Mathlib.Omega.{arith}
 use lib.ListN.{length}
 use borrow.Author.Needs.{needs}
-use Rattle.sparse.specs.Chunks.{Chunks, chunksAt, chunksOf}
+use Rattle.sparse_file.specs.Chunks.{Chunks, chunksAt, chunksOf}
 use Rattle.sparse.specs.Loading.{chunksOver}
-use Rattle.sparse.proofs.ChunkLaws.{Within, chunk-within}
-use Rattle.sparse.proofs.ChunksLaws.{chunks-start, chunks-bad, chunks-good, none-left}
+use Rattle.sparse_file.proofs.ChunkLaws.{Within, chunk-within}
+use Rattle.sparse_file.proofs.ChunksLaws.{chunks-start, chunks-bad, chunks-good, none-left}
 use Rattle.sparse.proofs.LoadingLaws.{over-next, over-none}
 use Rattle.sparse.proofs.write.write_chunks.Statement.{statement}
 use Rattle.sparse.proofs.write.write_chunks.Tie as tie

@@ -9,16 +9,16 @@ use lib.ListN.{length, length-append}
 use lib.Seq.{paste, take-append-seam, take-length, drop-append-add, drop-drop}
 use borrow.Author.Tests.{lt-ltb, le-ltb}
 use Rattle.io.specs.Digits.{digits, Fewest}
-use Rattle.decisions.specs.Answer.{decimalIn, decimal, mostDigits, over, zeros, lineOf}
+use Rattle.decisions.specs.Answer.{decimalIn, decimal, mostDigits, startingWith, zeros, lineOf}
 use Rattle.decisions.specs.declared.answer.Line.{Line}
 
 -- a text put after the one at the start of a buffer
-pub put-after : (a b x : List ℕ) → paste (over a x) (length a) b (length b) ≡ over (a ++ b) x
+pub put-after : (a b x : List ℕ) → paste (startingWith a x) (length a) b (length b) ≡ startingWith (a ++ b) x
 put-after a b x = rw (take-append-seam, take-length, drop-append-add, drop-drop, length-append)
 
 -- a text stands at the start of a buffer, and ends at n
 pub record Stands (text buf out : List ℕ) (n : ℕ) : Type 0 where
-  pub same : out ≡ over text buf
+  pub same : out ≡ startingWith text buf
   pub ends : n ≡ length text
 
 pub stands-after : (a b : List ℕ) {x out next : List ℕ} {at n : ℕ} → Stands a x out at → n ≡ at + length b

@@ -51,8 +51,8 @@ abbrev pub mostDigits : ℕ
 mostDigits = 20
 
 -- a text at the start of a buffer, and past it what stood there
-abbrev pub over : List ℕ → List ℕ → List ℕ
-over text buf = text ++ drop (length text) buf
+abbrev pub startingWith : List ℕ → List ℕ → List ℕ
+startingWith text buf = text ++ drop (length text) buf
 
 -- no line is longer than 50 bytes
 abbrev pub zeros : List ℕ
@@ -60,7 +60,7 @@ zeros = replicate 50 0
 
 -- a line at the start of zeros
 unfoldable pub lineOf : List ℕ → Line
-lineOf text = record { bytes = over text zeros; length = length text }
+lineOf text = record { bytes = startingWith text zeros; length = length text }
 
 -- case 14 prints exactly `done 0`
 pub prints-done-0 : answerLine Done 0 ≡ 100 ∷ 111 ∷ 110 ∷ 101 ∷ 32 ∷ 48 ∷ 10 ∷ []

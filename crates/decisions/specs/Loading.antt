@@ -23,8 +23,8 @@ tooLarge = mostImage + 1
 
 -- how long an image the file is read over: as long as the image that was found, else as the header says; too large where the file, or what
 -- the header says, is
-unfoldable pub lentBytes : List ℕ → Bool → ℕ → ℕ
-lentBytes file found image =
+unfoldable pub imageBytes : List ℕ → Bool → ℕ → ℕ
+imageBytes file found image =
     pick (ltb mostSparse (length file)) tooLarge
     (pick found image
     (pick (ltb mostBlocks (totalBlocks file)) tooLarge

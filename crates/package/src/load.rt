@@ -12,7 +12,7 @@ use crate::write_back::write_back;
 use decisions::answer::load_line;
 use decisions::loading::SPARSE_BYTES;
 use decisions::loading::TOO_LARGE;
-use decisions::loading::lent_bytes;
+use decisions::loading::image_bytes;
 use libc::STDOUT_FILENO;
 use state::limits::BLOCK_BYTES;
 
@@ -39,7 +39,7 @@ fn load_opened(file: &[u8], image_file: i32, image_path: &[u8], copy_path: &[u8]
     let Loaded::Bytes(m) = fill(image_file, image_path, &mut image) else {
         return;
     };
-    let n = lent_bytes(file, 0 <= image_file, m);
+    let n = image_bytes(file, 0 <= image_file, m);
     let number = sparse::load(file, &mut image[..n]);
     if number != 0 {
         say(number, 0);

@@ -9,7 +9,7 @@ use sparse_file::header::check_image;
 
 mod write;
 
-// Whether a file can be read over an image of so many bytes: the number of its refusal, 0 for none. It reads the whole file.
+// Whether a file can be read over an image of so many bytes: the number of its refusal, 0 for none. It goes over the whole file.
 pub fn check_load(file: &[u8], image: usize) -> usize
     ensures { λ r. ⌜ r ≡ loadRefusal (now (file .entry)) image ⌝ }
 {

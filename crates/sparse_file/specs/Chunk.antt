@@ -71,7 +71,7 @@ bodyBytes DontCare blocks = 0
 abbrev pub hasHeader : List ℕ → ℕ → Bool
 hasHeader file at = leb chunkHeaderBytes (length file - at)
 
--- of the bytes from its header on, none is missing; its type is known; it has blocks; and it has the bytes that it says
+-- of a chunk with its header and so many bytes of the file from its start on: body there, type known, blocks, and the right byte total
 unfoldable pub isFormed : ℕ → ℕ → ℕ → ℕ → Bool
 isFormed room type blocks bytes =
     both (leb bytes room)

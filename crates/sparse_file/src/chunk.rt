@@ -128,11 +128,14 @@ pub fn read_chunk(file: &[u8], at: usize, first: u32, total: u32) -> ChunkRead
     if !inside {
         return ChunkRead::Bad(SPARSE_PAST_IMAGE);
     }
+    let kind = kind_of(tag);
+    let body = at + CHUNK_HEADER_BYTES;
+    let next = at + bytes;
     ChunkRead::Good(Chunk {
-        kind: kind_of(tag),
+        kind,
         first,
         blocks,
-        body: at + CHUNK_HEADER_BYTES,
-        next: at + bytes,
+        body,
+        next,
     })
 }

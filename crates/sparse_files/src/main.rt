@@ -209,7 +209,7 @@ fn every(file: &[u8], image: &mut [u8]) {
     load(file, image);
 }
 
-fn lent(image: &mut [u8], n: usize) -> &mut [u8] {
+fn first_bytes(image: &mut [u8], n: usize) -> &mut [u8] {
     if n <= image.len() {
         return &mut image[..n];
     }
@@ -233,7 +233,7 @@ fn step(line: &[u8], file: &mut [u8], image: &mut [u8], c: Case) -> Case {
             image: number(line, 1),
         },
         2 => {
-            load(part(&*file, 0, c.file), lent(image, image_length));
+            load(part(&*file, 0, c.file), first_bytes(image, image_length));
             c
         }
         3 => {
@@ -241,7 +241,7 @@ fn step(line: &[u8], file: &mut [u8], image: &mut [u8], c: Case) -> Case {
             c
         }
         4 => {
-            every(part(&*file, 0, c.file), lent(image, image_length));
+            every(part(&*file, 0, c.file), first_bytes(image, image_length));
             c
         }
         _ => Case {

@@ -7,7 +7,7 @@ use lib.ListN.{length, length-append}
 use lib.Seq.{length-take-le}
 use Rattle.io.specs.Counts.{Counts}
 use Rattle.decisions.specs.Loading.{tooLarge}
-use Rattle.decisions.proofs.LoadingLaws.{lent-most}
+use Rattle.decisions.proofs.LoadingLaws.{image-most}
 use Rattle.package.specs.Fills.{Fills}
 use borrow.Author.Needs.{needs}
 use Rattle.package.proofs.load.load_opened.Statement.{statement}
@@ -16,12 +16,12 @@ use Rattle.package.proofs.load.load_opened.Tie as tie
 image-read : (c : tie.After-m) → Counts (c .m .given .0 .0) (c .before .before .before .fill .last .1 .1 .0)
 image-read c = subst (Fills _) (c .m .given .1) (c .before .before .before .fill .ensures)
 
-lent-fits : (c : tie.After-lent-bytes) → c .lent-bytes .result ≤ length (c .before .before .before .before .before .fill .last .1 .1 .0)
-lent-fits c =
+image-fits : (c : tie.After-image-bytes) → c .image-bytes .result ≤ length (c .before .before .before .before .before .fill .last .1 .1 .0)
+image-fits c =
     let f = c .before .before .before .before .before in
     let k = image-read (c .before .before) in
     let l = f .fill .kept .1 .1 .0 in
-    let most = subst (λ (n : ℕ). n ≤ tooLarge) (sym (c .lent-bytes .ensures)) (lent-most _ _ _ (omega arith)) in
+    let most = subst (λ (n : ℕ). n ≤ tooLarge) (sym (c .image-bytes .ensures)) (image-most _ _ _ (omega arith)) in
     omega arith
 
 slice-aggregate-fill : tie.Need-slice-aggregate-fill
@@ -39,14 +39,14 @@ enum-told c = search needs
 returns : tie.Need-returns
 returns c = search needs
 
-lent-bytes-requires : tie.Need-lent-bytes-requires
-lent-bytes-requires c κs = search needs
+image-bytes-requires : tie.Need-image-bytes-requires
+image-bytes-requires c κs = search needs
 
 array-borrow-prefix-image : tie.Need-array-borrow-prefix-image
-array-borrow-prefix-image c = lent-fits c
+array-borrow-prefix-image c = image-fits c
 
 slice-aggregate-load : tie.Need-slice-aggregate-load
-slice-aggregate-load c = sym (length-take-le _ _ (lent-fits (c .before)))
+slice-aggregate-load c = sym (length-take-le _ _ (image-fits (c .before)))
 
 load-requires : tie.Need-load-requires
 load-requires c κs = search needs
@@ -60,9 +60,9 @@ returns-2 c = search needs
 array-share-prefix-image : tie.Need-array-share-prefix-image
 array-share-prefix-image c =
     let l = c .before .before in
-    let k = lent-fits (l .before .before) in
-    let h : l .before .before .lent-bytes .result ≤ length (l .load .last .1 .0) =
-    omega (arith, l .load .kept .1 .0, length-take-le (l .before .before .lent-bytes .result) (l .before .before .before .before .before .before .before .fill .last .1 .1 .0) k) in
+    let k = image-fits (l .before .before) in
+    let h : l .before .before .image-bytes .result ≤ length (l .load .last .1 .0) =
+    omega (arith, l .load .kept .1 .0, length-take-le (l .before .before .image-bytes .result) (l .before .before .before .before .before .before .before .fill .last .1 .1 .0) k) in
     simp length-append (le-trans h (le-add-right _ _))
 
 slice-aggregate-write-image : tie.Need-slice-aggregate-write-image
@@ -89,7 +89,7 @@ load-opened-spec =
     enum-known-m
     enum-told
     returns
-    lent-bytes-requires
+    image-bytes-requires
     array-borrow-prefix-image
     slice-aggregate-load
     load-requires

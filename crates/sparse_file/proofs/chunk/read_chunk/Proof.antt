@@ -80,11 +80,11 @@ returns-4 c =
 kind-of-requires : tie.Need-kind-of-requires
 kind-of-requires c κs = search needs
 
-add-t11 : tie.Need-add-t11
-add-t11 c = search needs
+add-body : tie.Need-add-body
+add-body c = search needs
 
-add-t15 : tie.Need-add-t15
-add-t15 c = search needs
+add-next : tie.Need-add-next
+add-next c = search needs
 
 returns-5 : tie.Need-returns-5
 returns-5 c =
@@ -115,6 +115,6 @@ read-chunk-spec =
     returns-3
     returns-4
     kind-of-requires
-    add-t11
-    add-t15
+    add-body
+    add-next
     returns-5)

@@ -1,4 +1,4 @@
--- `loading::lent_bytes` meets its contract: each test is a case of `lentBytes`. Assumes nothing.
+-- `loading::image_bytes` meets its contract: each test is a case of `imageBytes`. Assumes nothing.
 use mathlib.Core.Path.{_≡_, ap, _∙_}
 use mathlib.Core.Bool.{Bool, true, false}
 use mathlib.Core.List.{List}
@@ -10,27 +10,27 @@ use borrow.Author.Tests.{lt-ltb, le-ltb}
 use Rattle.state.specs.Limits.{blockBytes}
 use Rattle.sparse_file.specs.Header.{totalBlocks}
 use Rattle.decisions.specs.Program.{mostBlocks}
-use Rattle.decisions.specs.Loading.{mostSparse, tooLarge, lentBytes}
-use Rattle.decisions.proofs.loading.lent_bytes.Statement.{statement}
-use Rattle.decisions.proofs.loading.lent_bytes.Tie as tie
+use Rattle.decisions.specs.Loading.{mostSparse, tooLarge, imageBytes}
+use Rattle.decisions.proofs.loading.image_bytes.Statement.{statement}
+use Rattle.decisions.proofs.loading.image_bytes.Tie as tie
 
 module _ (file : List ℕ) (found : Bool) (image : ℕ) where
-  file-too-long : mostSparse < length file → tooLarge ≡ lentBytes file found image
-  unfolding lentBytes
+  file-too-long : mostSparse < length file → tooLarge ≡ imageBytes file found image
+  unfolding imageBytes
   file-too-long l = rw (lt-ltb mostSparse (length file) l)
 
   module _ (l : length file ≤ mostSparse) where
-    as-found : found ≡ true → image ≡ lentBytes file found image
-    unfolding lentBytes
+    as-found : found ≡ true → image ≡ imageBytes file found image
+    unfolding imageBytes
     as-found f = rw (le-ltb mostSparse (length file) l, f)
 
     module _ (f : found ≡ false) where
-      header-too-large : mostBlocks < totalBlocks file → tooLarge ≡ lentBytes file found image
-      unfolding lentBytes
+      header-too-large : mostBlocks < totalBlocks file → tooLarge ≡ imageBytes file found image
+      unfolding imageBytes
       header-too-large b = rw (le-ltb mostSparse (length file) l, f, lt-ltb mostBlocks (totalBlocks file) b)
 
-      as-header : totalBlocks file ≤ mostBlocks → blockBytes * totalBlocks file ≡ lentBytes file found image
-      unfolding lentBytes
+      as-header : totalBlocks file ≤ mostBlocks → blockBytes * totalBlocks file ≡ imageBytes file found image
+      unfolding imageBytes
       as-header b = rw (le-ltb mostSparse (length file) l, f, le-ltb mostBlocks (totalBlocks file) b)
 
 returns : tie.Need-returns
@@ -58,8 +58,8 @@ returns-4 c =
     ap (λ (n : ℕ). blockBytes * n) (t .total-blocks .ensures)
     ∙ as-header (a .file .now) (a .found) (a .image) (omega arith) (t .before .if2 .left) (omega arith)
 
-pub lent-bytes-spec : {M : Type 1} → statement M
-lent-bytes-spec =
+pub image-bytes-spec : {M : Type 1} → statement M
+image-bytes-spec =
     tie.close
     (tie.spec
     returns

@@ -52,7 +52,7 @@ module _ (area bytes : List ℕ) (four : length bytes ≡ fillBytes) (whole : le
       let v = rw g at (repeated-at bytes four (length area / fillBytes) (i / fillBytes) j (omega arith) l) in
       rw f (rw v at (front-more (repeated (length area / fillBytes) bytes) area k (omega arith) (omega arith)))
 
-  pub fill-more : (i : ℕ) → i % fillBytes ≡ 0 → i < length area →
+  fill-more : (i : ℕ) → i % fillBytes ≡ 0 → i < length area →
       set (set (set (set (filled area bytes i) i (getD bytes 0 0)) (i + 1) (getD bytes 1 0)) (i + 2) (getD bytes 2 0)) (i + 3) (getD bytes 3 0)
       ≡ filled area bytes (i + 4)
   fill-more i t h =
@@ -62,6 +62,11 @@ module _ (area bytes : List ℕ) (four : length bytes ≡ fillBytes) (whole : le
       (fill-one i 1 (i + 1) (i + 2) t h (omega arith) (omega arith) (omega arith))
       ∙ ap (λ (x : List ℕ). set x (i + 3) (getD bytes 3 0)) (fill-one i 2 (i + 2) (i + 3) t h (omega arith) (omega arith) (omega arith))
       ∙ fill-one i 3 (i + 3) (i + 4) t h (omega arith) (omega arith) (omega arith)
+
+  pub fill-next : (k m : ℕ) {x y : List ℕ} → k % fillBytes ≡ 0 → k < length area → m ≡ k + 4 → x ≡ filled area bytes k →
+      y ≡ set (set (set (set x k (getD bytes 0 0)) (k + 1) (getD bytes 1 0)) (k + 2) (getD bytes 2 0)) (k + 3) (getD bytes 3 0) →
+      y ≡ filled area bytes m
+  fill-next k m t h n e f = rw n (f ∙ rw e (fill-more k t h))
 
 -- ---- a chunk over the image, by its kind
 
@@ -87,7 +92,7 @@ module _ (file : List ℕ) (c : Chunk) (next : c .body + bodyBytes (c .kind) (c 
         part-back image (take (c .next - c .body) (drop (c .body) file)) part at size l e ∙ rw (raw, n)
 
   module _ (fill : c .kind ≡ Fill) where
-    pub fill-sizes : (length (take size (drop at image)) % fillBytes ≡ 0) × (length (take (c .next - c .body) (drop (c .body) file)) ≡ fillBytes)
+    pub fill-sizes : (length (take size (drop at image)) % (4 * fillBytes) ≡ 0) × (length (take (c .next - c .body) (drop (c .body) file)) ≡ fillBytes)
     unfolding bodyBytes
     fill-sizes = let n = rw fill at next in (simp (length-take, length-drop) (omega arith), simp (length-take, length-drop) (omega arith))
 

@@ -1,26 +1,29 @@
--- `fill_in` meets its contract. The loop's invariant: the first i bytes, whole turns of four, are filled, and the others are as they were.
+-- `fill_in` meets its contract. The loop's invariant: the first i bytes, whole turns of sixteen, are filled, and the others are as they were.
 -- Assumes nothing.
 use mathlib.Core.Path.{_≡_, refl, _∙_}
 use mathlib.Core.List.{append-nil}
-use Prim.Native.Nat.{ℕ, _-_, _/_, _%_, _≤_, _<_}
+use Prim.Native.Nat.{ℕ, _+_, _-_, _*_, _/_, _%_, _≤_, _<_}
 use native.Mathlib.Omega.{arith}
-use lib.ListN.{length, length-set}
+use lib.ListN.{length}
 use lib.Seq.{take-all, drop-length}
 use Rattle.sparse_file.specs.Chunk.{fillBytes}
 use Rattle.sparse.specs.Loading.{repeated}
-use Rattle.sparse.proofs.LoadingLaws.{length-repeated, filled, fill-more}
+use Rattle.sparse.proofs.LoadingLaws.{length-repeated, filled, fill-next}
 use Rattle.sparse.proofs.write.fill_in.Statement.{statement}
 use Rattle.sparse.proofs.write.fill_in.Tie as tie
 
 abbrev Inv-loop : tie.InvT-loop
 Inv-loop part₀ bytes a b c d i₀ part i =
     (i ≤ length part₀)
-    × (i % fillBytes ≡ 0)
+    × (i % (4 * fillBytes) ≡ 0)
     × (part ≡ filled part₀ bytes i)
     × (length part ≡ length part₀)
 
 abbrev μ-loop : tie.MeasureT-loop
 μ-loop part₀ bytes a b c d i₀ part i = length part₀ - i
+
+abbrev start : tie.At-loop Inv-loop μ-loop → tie.Start Inv-loop μ-loop
+start l = l .before .before .before .before .before .before .before
 
 shared-slice-read-a : tie.Need-shared-slice-read-a Inv-loop μ-loop
 shared-slice-read-a c = omega arith
@@ -37,26 +40,26 @@ shared-slice-read-d c = omega arith
 loop-holds : tie.Need-loop-holds Inv-loop μ-loop
 loop-holds c = (omega arith, omega arith, refl, refl)
 
-slice-write-part : tie.Need-slice-write-part Inv-loop μ-loop
-slice-write-part c = omega arith
+put-four-requires : tie.Need-put-four-requires Inv-loop μ-loop
+put-four-requires c κs = omega arith
 
-add-part : tie.Need-add-part Inv-loop μ-loop
-add-part c = omega arith
+add-put-four : tie.Need-add-put-four Inv-loop μ-loop
+add-put-four c = omega arith
 
-slice-write-part-2 : tie.Need-slice-write-part-2 Inv-loop μ-loop
-slice-write-part-2 c = simp length-set (omega arith)
+put-four-requires-2 : tie.Need-put-four-requires-2 Inv-loop μ-loop
+put-four-requires-2 c κs = omega arith
 
-add-part-2 : tie.Need-add-part-2 Inv-loop μ-loop
-add-part-2 c = omega arith
+add-put-four-2 : tie.Need-add-put-four-2 Inv-loop μ-loop
+add-put-four-2 c = omega arith
 
-slice-write-part-3 : tie.Need-slice-write-part-3 Inv-loop μ-loop
-slice-write-part-3 c = simp length-set (omega arith)
+put-four-requires-3 : tie.Need-put-four-requires-3 Inv-loop μ-loop
+put-four-requires-3 c κs = omega arith
 
-add-part-3 : tie.Need-add-part-3 Inv-loop μ-loop
-add-part-3 c = omega arith
+add-put-four-3 : tie.Need-add-put-four-3 Inv-loop μ-loop
+add-put-four-3 c = omega arith
 
-slice-write-part-4 : tie.Need-slice-write-part-4 Inv-loop μ-loop
-slice-write-part-4 c = simp length-set (omega arith)
+put-four-requires-4 : tie.Need-put-four-requires-4 Inv-loop μ-loop
+put-four-requires-4 c κs = omega arith
 
 add-i : tie.Need-add-i Inv-loop μ-loop
 add-i c = omega arith
@@ -66,10 +69,21 @@ loop-less c = omega arith
 
 loop-again : tie.Need-loop-again Inv-loop μ-loop
 loop-again c =
-    let l = c .before in
-    let s = l .before .before .before .before .before in
-    let h : l .loop .i < length (s .args .part .now) = omega arith in
-    (omega arith, omega arith, rw (l .loop .inv .2) (fill-more (s .args .part .now) (s .args .bytes .now) (s .pre .1) (s .pre .0) (l .loop .i) (l .loop .inv .1) h), simp length-set (omega arith))
+    let p4 = c .before .before in
+    let p3 = p4 .before .before .before .before in
+    let p2 = p3 .before .before .before .before in
+    let p1 = p2 .before .before .before .before in
+    let l = p1 .before .before .before in
+    let i = l .loop .i in
+    let s = start l in
+    let area = s .args .part .now in
+    let bytes = s .args .bytes .now in
+    let whole : length area % fillBytes ≡ 0 = omega arith in
+    let e1 = fill-next area bytes (s .pre .1) whole i (i + 4) (omega arith) (omega arith) (omega arith) (l .loop .inv .2) (p1 .put-four .ensures) in
+    let e2 = fill-next area bytes (s .pre .1) whole (i + 4) (i + 8) (omega arith) (omega arith) (omega arith) e1 (p2 .put-four2 .ensures) in
+    let e3 = fill-next area bytes (s .pre .1) whole (i + 8) (i + 12) (omega arith) (omega arith) (omega arith) e2 (p3 .put-four3 .ensures) in
+    let e4 = fill-next area bytes (s .pre .1) whole (i + 12) (i + 16) (omega arith) (omega arith) (omega arith) e3 (p4 .put-four4 .ensures) in
+    (omega arith, omega arith, e4, omega arith)
 
 same-length : tie.Need-same-length Inv-loop μ-loop
 same-length c = omega arith
@@ -77,7 +91,7 @@ same-length c = omega arith
 returns : tie.Need-returns Inv-loop μ-loop
 returns c =
     let l = c .before in
-    let s = l .before .before .before .before .before in
+    let s = start l in
     let part = s .args .part .now in
     let bytes = s .args .bytes .now in
     let e : l .loop .i ≡ length part = omega arith in
@@ -96,13 +110,13 @@ fill-in-spec =
     shared-slice-read-c
     shared-slice-read-d
     loop-holds
-    slice-write-part
-    add-part
-    slice-write-part-2
-    add-part-2
-    slice-write-part-3
-    add-part-3
-    slice-write-part-4
+    put-four-requires
+    add-put-four
+    put-four-requires-2
+    add-put-four-2
+    put-four-requires-3
+    add-put-four-3
+    put-four-requires-4
     add-i
     loop-less
     loop-again

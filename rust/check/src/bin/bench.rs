@@ -365,7 +365,7 @@ fn sparse_files<S: Side>() {
     let (mut image, mut plain_image) = (start.clone(), start.clone());
     for (name, kind, blocks) in [
         ("one raw chunk", RAW, LOADED),
-        // The longest that the field's own tools write.
+        // Long, and below the length from which memcpy was seen to go another way.
         ("raw chunks of 64 MiB", RAW, 16_384),
         ("raw chunks of one block", RAW, 1),
         ("one fill", FILL, LOADED),

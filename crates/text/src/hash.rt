@@ -1,13 +1,12 @@
 // Hashes: 40 hexadecimal digits in lower case.
 ghost use mathlib.Core.Path.{_≡_};
+ghost use mathlib.Core.Logic.{_⊎_};
+ghost use Prim.Native.Nat.{_<_};
 ghost use Rattle.text.specs.Hash.{digitOf, digitAt, octetAt, hashAt};
 use crate::expected::Expected;
 
 // How many bytes a hash has.
 pub const HASH_BYTES: usize = 20;
-
-// What a letter is counted from: `a` is 10.
-const BEFORE_A: u8 = b'a' - 10;
 
 enum Digit {
     Value(u8),
@@ -26,15 +25,24 @@ pub struct Hash {
     pub bytes: [u8; HASH_BYTES],
 }
 
+// A digit from 0 to 9, or what else the character is.
 fn hex_digit(b: u8) -> Digit
     ensures { λ r. ⌜ r ≡ digitOf b ⌝ }
 {
     match b {
-        b'0'..=b'9' | b'a'..=b'f' => {
-            // One arm for both: which of the two a character is cannot be foreseen, and a jump would be guessed wrong half the time.
-            let zero = if b < b'a' { b'0' } else { BEFORE_A };
-            Digit::Value(b - zero)
-        }
+        b'0'..=b'9' => Digit::Value(b - b'0'),
+        _ => hex_letter(b),
+    }
+}
+
+// The letters count on from 10. Apart from the digits: whether a character is the one or the other cannot be foreseen, and here, unlike in one
+// `match` with both, it takes no jump.
+fn hex_letter(b: u8) -> Digit
+    requires { ⌜ (b < 48) ⊎ (57 < b) ⌝ }
+    ensures { λ r. ⌜ r ≡ digitOf b ⌝ }
+{
+    match b {
+        b'a'..=b'f' => Digit::Value(b - b'a' + 10),
         _ => Digit::Other,
     }
 }

@@ -1,0 +1,16 @@
+-- `specs/Hash.antt`, worked out at the ends of its two ranges: the character before, the first, the last and the one after. With it a definition
+-- whose range is moved is refused, and not only code that differs from it.
+-- Assumes nothing.
+use mathlib.Core.Path.{_≡_, refl}
+use Rattle.text.specs.declared.hash.Digit.the-variants.{Value, Other}
+use Rattle.text.specs.Hash.{digitOf}
+
+-- / 0 9 :
+pub digits-end : (digitOf 47 ≡ Other) × (digitOf 48 ≡ Value 0) × (digitOf 57 ≡ Value 9) × (digitOf 58 ≡ Other)
+unfolding digitOf
+digits-end = (refl, refl, refl, refl)
+
+-- ` a f g
+pub letters-end : (digitOf 96 ≡ Other) × (digitOf 97 ≡ Value 10) × (digitOf 102 ≡ Value 15) × (digitOf 103 ≡ Other)
+unfolding digitOf
+letters-end = (refl, refl, refl, refl)

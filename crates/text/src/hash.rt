@@ -25,21 +25,21 @@ pub struct Hash {
     pub bytes: [u8; HASH_BYTES],
 }
 
-// A digit from 0 to 9, or what else the character is.
+// 0 to 9, or else what `hex_letter` says. It is asked beforehand: whether a character is a digit or a letter cannot be foreseen, and with both ranges
+// in one `match` there would be a jump on it.
 fn hex_digit(b: u8) -> Digit
     ensures { λ r. ⌜ r ≡ digitOf b ⌝ }
 {
+    let letter = hex_letter(b);
     match b {
         b'0'..=b'9' => Digit::Value(b - b'0'),
-        _ => hex_letter(b),
+        _ => letter,
     }
 }
 
-// The letters count on from 10. Apart from the digits: whether a character is the one or the other cannot be foreseen, and here, unlike in one
-// `match` with both, it takes no jump.
+// The letters count on from 10. What it says of 0 to 9 (48 to 57) is not used.
 fn hex_letter(b: u8) -> Digit
-    requires { ⌜ (b < 48) ⊎ (57 < b) ⌝ }
-    ensures { λ r. ⌜ r ≡ digitOf b ⌝ }
+    ensures { λ r. ⌜ ((b < 48) ⊎ (57 < b) → r ≡ digitOf b) ⌝ }
 {
     match b {
         b'a'..=b'f' => Digit::Value(b - b'a' + 10),
@@ -57,6 +57,7 @@ fn digit_at(s: &[u8], i: usize) -> Digit
     }
 }
 
+// Two digits are a byte, the higher first.
 fn octet_at(s: &[u8], i: usize) -> Octet
     ensures { λ r. ⌜ r ≡ octetAt (now (s .entry)) i ⌝ }
 {
@@ -69,7 +70,6 @@ fn octet_at(s: &[u8], i: usize) -> Octet
     }
 }
 
-// Two digits are a byte, the higher first.
 pub fn read_hash(s: &[u8], at: usize) -> Hash
     ensures { λ r. ⌜ r ≡ hashAt (now (s .entry)) at ⌝ }
 {

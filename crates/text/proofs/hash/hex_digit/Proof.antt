@@ -1,7 +1,7 @@
--- `text::hash::hex_digit` meets its contract: a digit by its range, and what else is by `hex_letter`.
+-- `text::hash::hex_digit` meets its contract: 0 to 9 by their range, all else by `hex_letter`.
 -- Assumes nothing.
 use mathlib.Core.Path.{_≡_, sym}
-use mathlib.Core.Logic.{inl, inr, ⊎-elim}
+use mathlib.Core.Logic.{inl, inr}
 use Prim.Native.Nat.{ℕ, _-_, _≤_}
 use native.Mathlib.Omega.{arith}
 use borrow.Author.Tests.{le-leb}
@@ -19,6 +19,7 @@ pub hex-digit-spec : {M : Type 1} → statement M
 hex-digit-spec =
     tie.close
     (tie.spec
-    (λ c κs. ⊎-elim (λ v. inl (omega arith)) (λ v. inr (omega arith)) (c .if1 .came))
+    (λ c κs. search needs)
     (λ c. sym (of-digit _ (omega arith) (omega arith)))
-    (λ c. search needs))
+    (λ c. c .before .hex-letter .ensures (inl (omega arith)))
+    (λ c. c .before .before .hex-letter .ensures (inr (omega arith))))

@@ -1,4 +1,4 @@
--- `text::hash::hex_letter` meets its contract: what is no digit is told by the range of letters.
+-- `text::hash::hex_letter` meets its contract: what is not 0 to 9 is a letter or `Other`, by the range of the letters.
 -- Assumes nothing.
 use mathlib.Core.Path.{_≡_, sym}
 use mathlib.Core.Logic.{_⊎_, ⊎-elim}
@@ -29,6 +29,6 @@ hex-letter-spec =
     tie.close
     (tie.spec
     (λ c. search needs)
-    (λ c. sym (of-letter _ (omega arith) (omega arith)))
-    (λ c. sym (of-low _ (search needs) (omega arith)))
-    (λ c. sym (of-high _ (omega arith))))
+    (λ c n. sym (of-letter _ (omega arith) (omega arith)))
+    (λ c n. sym (of-low _ n (omega arith)))
+    (λ c n. sym (of-high _ (omega arith))))

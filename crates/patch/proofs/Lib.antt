@@ -1,0 +1,6 @@
+pub mod PositionLaws
+pub mod RecordLaws
+pub mod PartLaws
+pub mod AddedLaws
+pub mod PatchLaws
+pub mod Examples

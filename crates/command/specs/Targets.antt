@@ -9,7 +9,7 @@ use Rattle.command.specs.declared.source.Source.the-variants.{Blocks, St
 use Rattle.command.specs.declared.targets.NewTarget.{NewTarget}
 use Rattle.command.specs.declared.targets.NewTarget.the-variants as new
 use Rattle.command.specs.declared.Command.{Command}
-use Rattle.command.specs.declared.Command.the-variants.{Zero, Erase, New, Move, Stash, Free, Unsupported, Bad}
+use Rattle.command.specs.declared.Command.the-variants.{Zero, Erase, New, Move, Bsdiff, Stash, Free, Unsupported, Bad}
 
 -- the target that takes new data: that of a `new`
 unfoldable pub newTarget : Command → NewTarget
@@ -17,6 +17,7 @@ newTarget (Zero set) = new.None
 newTarget (Erase set) = new.None
 newTarget (New set) = new.Set set
 newTarget (Move target n source) = new.None
+newTarget (Bsdiff patching target n source) = new.None
 newTarget (Stash set) = new.None
 newTarget Free = new.None
 newTarget Unsupported = new.None
@@ -32,6 +33,7 @@ targetBlocks l (Zero set) = blocksAt l (set .at)
 targetBlocks l (Erase set) = blocksAt l (set .at)
 targetBlocks l (New set) = blocksAt l (set .at)
 targetBlocks l (Move target n source) = blocksAt l (target .at)
+targetBlocks l (Bsdiff patching target n source) = blocksAt l (target .at)
 targetBlocks l (Stash set) = []
 targetBlocks l Free = []
 targetBlocks l Unsupported = []
@@ -49,6 +51,7 @@ sourceBlocks l (Zero set) = []
 sourceBlocks l (Erase set) = []
 sourceBlocks l (New set) = []
 sourceBlocks l (Move target n source) = imageBlocksOf l source
+sourceBlocks l (Bsdiff patching target n source) = imageBlocksOf l source
 sourceBlocks l (Stash set) = blocksAt l (set .at)
 sourceBlocks l Free = []
 sourceBlocks l Unsupported = []

@@ -1,16 +1,16 @@
-// A line of a transfer list, read as a command.
+// A line of a purpose list, read as a command.
 ghost use mathlib.Core.Path.{_≡_};
 ghost use Rattle.text.specs.Expected.{onExpected};
 ghost use Rattle.ranges.specs.Ranges.{onRanges};
 ghost use Rattle.command.specs.declared.Command.the-variants.{Bad};
-ghost use Rattle.command.specs.Commands.{moveTo, moveFrom, stashFrom, freeFrom, afterHash, withSet, plain, hashedLine, rangeLine, commandOf};
+ghost use Rattle.command.specs.Commands.{stashFrom, freeFrom, afterHash, withSet, plain, hashedLine, rangeLine, commandOf};
+use crate::bsdiff::bsdiff_line;
 use crate::field::read_hash_field;
 use crate::field::read_last_set;
-use crate::field::read_number_field;
-use crate::field::read_set_field;
 use crate::source::Source;
-use crate::source::SourceRead;
-use crate::source::read_source;
+use crate::sourced::Patching;
+use crate::sourced::Purpose;
+use crate::sourced::read_target;
 use crate::word::HashWord;
 use crate::word::RangeWord;
 use crate::word::Word;
@@ -20,20 +20,27 @@ use ranges::Ranges;
 use text::expected::Expected;
 use text::expected::read_expected;
 use text::hash::HASH_BYTES;
-use text::number::Number;
 
+mod bsdiff;
 pub mod field;
 pub mod parts;
 pub mod source;
+pub mod sourced;
 pub mod targets;
 pub mod word;
 
-// `Unsupported` is `bsdiff` and `imgdiff`; `Bad` has the position of the line's fault.
+// `Unsupported` is `imgdiff`; `Bad` has the position of the line's fault.
 pub enum Command {
     Zero(RangeSet),
     Erase(RangeSet),
     New(RangeSet),
     Move {
+        target: RangeSet,
+        length: u32,
+        source: Source,
+    },
+    Bsdiff {
+        patching: Patching,
         target: RangeSet,
         length: u32,
         source: Source,
@@ -48,32 +55,6 @@ pub enum Command {
 pub struct Line {
     pub command: Command,
     pub hash: [u8; HASH_BYTES],
-}
-
-// N and the source of a `move`, after its target.
-fn read_length(l: &[u8], target: RangeSet, at: usize) -> Command
-    ensures { λ r. ⌜ r ≡ moveTo (now (l .entry)) target at ⌝ }
-{
-    match read_number_field(l, at) {
-        Number::Bad(p) => Command::Bad(p),
-        Number::Good(length, i) => match read_source(l, i) {
-            SourceRead::Bad(p) => Command::Bad(p),
-            SourceRead::Good(source) => Command::Move {
-                target,
-                length,
-                source,
-            },
-        },
-    }
-}
-
-fn read_move(l: &[u8], at: usize) -> Command
-    ensures { λ r. ⌜ r ≡ moveFrom (now (l .entry)) at ⌝ }
-{
-    match read_set_field(l, at) {
-        Ranges::Bad(p) => Command::Bad(p),
-        Ranges::Good(target, i) => read_length(l, target, i),
-    }
 }
 
 fn read_stash(l: &[u8], at: usize) -> Command
@@ -101,7 +82,7 @@ fn after_hash(l: &[u8], word: HashWord, read: Expected) -> Command
     match read {
         Expected::Bad(p) => Command::Bad(p),
         Expected::Past(at) => match word {
-            HashWord::Move => read_move(l, at),
+            HashWord::Move => read_target(l, Purpose::Move, at),
             HashWord::Stash => read_stash(l, at),
             HashWord::Free => read_free(l, at),
         },
@@ -121,7 +102,7 @@ fn with_set(word: RangeWord, read: Ranges) -> Command
     }
 }
 
-fn without_hash(command: Command) -> Line
+pub(crate) fn without_hash(command: Command) -> Line
     ensures { λ r. ⌜ r ≡ plain command ⌝ }
 {
     Line {
@@ -157,7 +138,7 @@ pub fn read_command(l: &[u8]) -> Line
     match word_of(l) {
         Word::Ranges(word) => range_line(l, word),
         Word::Hash(word) => hashed_line(l, word),
-        Word::Bsdiff => without_hash(Command::Unsupported),
+        Word::Bsdiff => bsdiff_line(l),
         Word::Imgdiff => without_hash(Command::Unsupported),
         Word::Unknown => without_hash(Command::Bad(0)),
     }

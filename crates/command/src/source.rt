@@ -1,4 +1,4 @@
-// The source of a `move`.
+// The source of a `move` or of a `bsdiff`.
 ghost use mathlib.Core.Path.{_≡_};
 ghost use Rattle.command.specs.Commands.{afterDash, withPlaces, afterBlocks, sourceFrom, sourceField};
 use crate::field::read_set_field;

@@ -22,6 +22,12 @@ pub fn new_target(command: Command) -> NewTarget
             length: _,
             source: _,
         } => NewTarget::None,
+        Command::Bsdiff {
+            patching: _,
+            target: _,
+            length: _,
+            source: _,
+        } => NewTarget::None,
         Command::Stash(_) => NewTarget::None,
         Command::Free => NewTarget::None,
         Command::Unsupported => NewTarget::None,

@@ -1,4 +1,4 @@
--- Document 01, "Calls", last paragraph: what the program decides about its files.
+-- Document 01, "Calls", last paragraph, and document 02, R-4: what the program decides about its files.
 -- Assumes nothing: these are definitions.
 use Prim.Native.Nat.{ℕ, _*_, _%_}
 use mathlib.Core.Bool.{Bool, false}
@@ -44,8 +44,8 @@ sizeRefusal list image =
     (record { number = none; line = 0 }))
 
 -- the list is opened over areas of 3 blocks each
-abbrev pub openedWith : List ℕ → ℕ → State
-openedWith s image = openState s (lengthsOf s image areaBytes areaBytes)
+abbrev pub openedWith : List ℕ → ℕ → ℕ → State
+openedWith s image patch = openState s (lengthsOf s image areaBytes areaBytes areaBytes patch)
 
 -- after a call with a piece of n bytes there is another where the list wants more, unless the piece was the data's end
 abbrev pub callsOn : Outcome → ℕ → Bool

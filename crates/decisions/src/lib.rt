@@ -19,6 +19,9 @@ pub const IMAGE_BYTES: usize = IMAGE_BLOCKS * BLOCK_BYTES;
 
 pub const AREA_BYTES: usize = 3 * BLOCK_BYTES;
 
+// As much of the patch file as is lent.
+pub const PATCH_BYTES: usize = 4096;
+
 // Whole blocks, and not over the most.
 fn is_image(bytes: usize) -> bool
     ensures { λ r. ⌜ r ≡ isImage bytes ⌝ }
@@ -50,11 +53,11 @@ pub fn size_refusal(list: usize, image: usize) -> Refusal
     Refusal { number: 0, line: 0 }
 }
 
-// Opens the list over an image of that length and the program's own areas.
-pub fn open_list(list: &[u8], image: usize) -> State
-    ensures { λ r. ⌜ r ≡ openedWith (now (list .entry)) image ⌝ }
+// Opens the list over an image and patch data of those lengths and the program's own areas.
+pub fn open_list(list: &[u8], image: usize, patch: usize) -> State
+    ensures { λ r. ⌜ r ≡ openedWith (now (list .entry)) image patch ⌝ }
 {
-    transfer_list::open(list, image, AREA_BYTES, AREA_BYTES)
+    transfer_list::open(list, image, AREA_BYTES, AREA_BYTES, AREA_BYTES, patch)
 }
 
 // Whether the next piece is read, after a call with one of n bytes.

@@ -71,12 +71,14 @@ fn update_folder(folder: &[u8]) {
     let mut list = [0u8; PATH_MAX];
     let mut image = [0u8; PATH_MAX];
     let mut data = [0u8; PATH_MAX];
+    let mut patch = [0u8; PATH_MAX];
     let mut copy = [0u8; PATH_MAX];
     let a = in_folder(folder, b"system.transfer.list", &mut list);
     let b = in_folder(folder, b"system.img", &mut image);
     let c = in_folder(folder, b"system.new.dat", &mut data);
-    let d = in_folder(folder, b"system.img.updated", &mut copy);
-    package::update(&list[..a], &image[..b], &data[..c], &copy[..d]);
+    let d = in_folder(folder, b"system.patch.dat", &mut patch);
+    let e = in_folder(folder, b"system.img.updated", &mut copy);
+    package::update(&list[..a], &image[..b], &data[..c], &patch[..d], &copy[..e]);
 }
 
 fn load_folder(folder: &[u8]) {

@@ -14,7 +14,7 @@ use state::State;
 use updater::Called;
 use updater::Outcome;
 
-const ABI: usize = 1;
+const ABI: usize = 2;
 
 // An outcome as numbers: 0 done, 1 more, 2 refused with a number and a line.
 #[repr(C)]
@@ -58,7 +58,7 @@ fn to_answer(called: Called) -> Answer
 
 // The ABI's number. The name has it too, so that what was built for another one does not link.
 #[no_mangle]
-pub extern "C" fn muongrabi_abi_1() -> usize
+pub extern "C" fn muongrabi_abi_2() -> usize
     ensures { λ r. ⌜ r ≡ abi ⌝ }
 {
     ABI
@@ -74,10 +74,17 @@ pub extern "C" fn muongrabi_digest(bytes: &[u8], out: &mut [u8; 20])
 
 // Opens a list over areas of the given lengths in bytes.
 #[no_mangle]
-pub extern "C" fn muongrabi_open(list: &[u8], image: usize, stash: usize, work: usize) -> State
-    ensures { λ r. ⌜ r ≡ openState (now (list .entry)) (lengthsOf (now (list .entry)) image stash work) ⌝ }
+pub extern "C" fn muongrabi_open(
+    list: &[u8],
+    image: usize,
+    stash: usize,
+    work: usize,
+    result: usize,
+    patch: usize,
+) -> State
+    ensures { λ r. ⌜ r ≡ openState (now (list .entry)) (lengthsOf (now (list .entry)) image stash work result patch) ⌝ }
 {
-    transfer_list::open(list, image, stash, work)
+    transfer_list::open(list, image, stash, work, result, patch)
 }
 
 // One call with one piece of new data.
@@ -87,12 +94,14 @@ pub extern "C" fn muongrabi_call(
     image: &mut [u8],
     stash: &mut [u8],
     work: &mut [u8],
+    result: &mut [u8],
+    patch: &[u8],
     piece: &[u8],
     state: State,
 ) -> Answer
-    ensures { λ r. ⌜ answeredOf (areasOf (now (image .exit)) (now (stash .exit)) (now (work .exit))) r ≡ answered (callOf (now (list .entry)) (now (piece .entry)) (configOf (areasOf (now (image .entry)) (now (stash .entry)) (now (work .entry))) state)) ⌝ }
+    ensures { λ r. ⌜ answeredOf (areasOf (now (image .exit)) (now (stash .exit)) (now (work .exit)) (now (result .exit)) (now (patch .entry))) r ≡ answered (callOf (now (list .entry)) (now (piece .entry)) (configOf (areasOf (now (image .entry)) (now (stash .entry)) (now (work .entry)) (now (result .entry)) (now (patch .entry))) state)) ⌝ }
 {
-    to_answer(updater::call(list, image, stash, work, piece, state))
+    to_answer(updater::call(list, image, stash, work, result, patch, piece, state))
 }
 
 // Opens the list and makes the calls: a piece of each given length, cut short where the bytes end, and then one with what is left.
@@ -102,12 +111,14 @@ pub extern "C" fn muongrabi_run(
     image: &mut [u8],
     stash: &mut [u8],
     work: &mut [u8],
+    result: &mut [u8],
+    patch: &[u8],
     bytes: &[u8],
     cuts: &[usize],
 ) -> Answer
-    ensures { λ r. ⌜ answeredOf (areasOf (now (image .exit)) (now (stash .exit)) (now (work .exit))) r ≡ answered (runCuts (now (list .entry)) (areasOf (now (image .entry)) (now (stash .entry)) (now (work .entry))) (now (bytes .entry)) (now (cuts .entry))) ⌝ }
+    ensures { λ r. ⌜ answeredOf (areasOf (now (image .exit)) (now (stash .exit)) (now (work .exit)) (now (result .exit)) (now (patch .entry))) r ≡ answered (runCuts (now (list .entry)) (areasOf (now (image .entry)) (now (stash .entry)) (now (work .entry)) (now (result .entry)) (now (patch .entry))) (now (bytes .entry)) (now (cuts .entry))) ⌝ }
 {
-    to_answer(sequence::run_pieces(list, image, stash, work, bytes, cuts))
+    to_answer(sequence::run_pieces(list, image, stash, work, result, patch, bytes, cuts))
 }
 
 // Reads a sparse file over an image, and gives the number of the refusal, 0 for none.

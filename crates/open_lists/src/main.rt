@@ -1,11 +1,11 @@
 // Opens the lists that standard input describes, and prints for each whether it is accepted, or the number and the line of its refusal.
 // A line of input is one of these; any other, as a comment, is passed over:
-//   case LABEL                a new list over an image of 8 blocks and areas of 3
-//   areas IMAGE STASH WORK    other lengths, in bytes
-//   |TEXT                     a line of the list
-//   +TEXT                     bytes of the list, with no LF
-//   repeat N |TEXT            that, N times
-//   open                      opens it
+//   case LABEL                             a new list over an image of 8 blocks, areas of 3 and no patch data
+//   areas IMAGE STASH WORK RESULT PATCH    other lengths, in bytes
+//   |TEXT                                  a line of the list
+//   +TEXT                                  bytes of the list, with no LF
+//   repeat N |TEXT                         that, N times
+//   open                                   opens it
 use libc::STDIN_FILENO;
 use libc::STDOUT_FILENO;
 use records::buffers::part;
@@ -23,7 +23,7 @@ fn say(bytes: &[u8]) {
 }
 
 fn say_opened(list: &[u8], l: Lengths) {
-    let opened = transfer_list::open(list, l.image, l.stash, l.work);
+    let opened = transfer_list::open(list, l.image, l.stash, l.work, l.result, l.patch);
     let refusal = opened.refusal;
     if refusal.number == 0 {
         say(b"accepted\n");
@@ -47,6 +47,8 @@ fn step(line: &[u8], list: &mut [u8], l: Lengths) -> Lengths {
                 image: 32768,
                 stash: 12288,
                 work: 12288,
+                result: 12288,
+                patch: 0,
             }
         }
         1 => Lengths {
@@ -54,6 +56,8 @@ fn step(line: &[u8], list: &mut [u8], l: Lengths) -> Lengths {
             image: number(line, 1),
             stash: number(line, 2),
             work: number(line, 3),
+            result: number(line, 4),
+            patch: number(line, 5),
         },
         2 => {
             say_opened(part(&*list, 0, l.list), l);
@@ -64,6 +68,8 @@ fn step(line: &[u8], list: &mut [u8], l: Lengths) -> Lengths {
             image: l.image,
             stash: l.stash,
             work: l.work,
+            result: l.result,
+            patch: l.patch,
         },
     }
 }
@@ -75,6 +81,8 @@ fn run(text: &[u8], list: &mut [u8; LIST_ROOM]) {
         image: 0,
         stash: 0,
         work: 0,
+        result: 0,
+        patch: 0,
     };
     let mut from = 0;
     let mut i = 0;

@@ -1,5 +1,5 @@
-// An update in three files: a transfer list, an image and new data. They are read, the list is run over the image in memory, and the
-// image is written back. `load` does the same with a sparse file.
+// An update in four files: a transfer list, an image, new data and patch data. They are read, the list is run over the image in memory,
+// and the image is written back. `load` does the same with a sparse file.
 //
 // No contract can speak of a file. What is decided about files is in the crate `decisions`, where each function has its equation.
 ghost use Prim.Native.Nat.{_≤_};
@@ -16,6 +16,7 @@ use crate::write_back::write_back;
 use decisions::AREA_BYTES;
 use decisions::IMAGE_BYTES;
 use decisions::LIST_BYTES;
+use decisions::PATCH_BYTES;
 use decisions::answer::answer_line;
 use decisions::calls_on;
 use decisions::open_list;
@@ -59,6 +60,7 @@ fn say(outcome: Outcome, taken: u64) {
 fn run(
     list: &[u8],
     image: &mut [u8],
+    patch: &[u8],
     piece: &mut [u8],
     first: usize,
     data: i32,
@@ -69,12 +71,22 @@ fn run(
 {
     let mut stash = [0u8; AREA_BYTES];
     let mut work = [0u8; AREA_BYTES];
+    let mut result = [0u8; AREA_BYTES];
     let mut s = opened;
     let mut n = first;
     let mut taken: u64 = 0;
     let mut turns: u64 = 1 << 40;
     while 0 < turns {
-        let called = call(list, image, &mut stash, &mut work, &piece[..n], s);
+        let called = call(
+            list,
+            image,
+            &mut stash,
+            &mut work,
+            &mut result,
+            patch,
+            &piece[..n],
+            s,
+        );
         s = called.state;
         taken += called.taken as u64;
         let outcome = called.outcome;
@@ -93,6 +105,7 @@ fn run(
 // Every file is read before anything is decided, the new data as far as its first piece.
 fn update_opened(
     list: &[u8],
+    patch: &[u8],
     image_file: i32,
     image_path: &[u8],
     data: i32,
@@ -112,7 +125,7 @@ fn update_opened(
         say(refused(size), 0);
         return;
     }
-    let opened = open_list(list, m);
+    let opened = open_list(list, m, patch.len());
     let refusal = opened.refusal;
     if refusal.number != 0 {
         say(refused(refusal), 0);
@@ -121,6 +134,7 @@ fn update_opened(
     let ran = run(
         list,
         &mut image[..m],
+        patch,
         &mut piece,
         n,
         data,
@@ -137,12 +151,22 @@ fn update_opened(
 
 // Applies an update and prints the answer line. A file that is there and cannot be read, or an image that cannot be written, gets a
 // message on standard error instead. The copy is what is about to be written, kept while the image is written.
-pub fn update(list_path: &[u8], image_path: &[u8], data_path: &[u8], copy_path: &[u8]) {
+pub fn update(
+    list_path: &[u8],
+    image_path: &[u8],
+    data_path: &[u8],
+    patch_path: &[u8],
+    copy_path: &[u8],
+) {
     if !hold_standard() {
         return;
     }
     let mut list = [0u8; LIST_ROOM];
     let Loaded::Bytes(n) = read_file(list_path, &mut list) else {
+        return;
+    };
+    let mut patch = [0u8; PATCH_BYTES];
+    let Loaded::Bytes(p) = read_file(patch_path, &mut patch) else {
         return;
     };
     let Opened::At(image) = check_opened(os::open_update(image_path), image_path) else {
@@ -152,7 +176,15 @@ pub fn update(list_path: &[u8], image_path: &[u8], data_path: &[u8], copy_path: 
         libc::close(image);
         return;
     };
-    update_opened(&list[..n], image, image_path, data, data_path, copy_path);
+    update_opened(
+        &list[..n],
+        &patch[..p],
+        image,
+        image_path,
+        data,
+        data_path,
+        copy_path,
+    );
     libc::close(data);
     libc::close(image);
 }

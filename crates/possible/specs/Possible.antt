@@ -1,4 +1,4 @@
--- Document 01, "Calls": 17, the states that a list and its areas can have.
+-- Document 01, "Calls", and document 02, R-4: 17, the states that a list and its areas can have.
 -- Assumes nothing: these are definitions.
 use Prim.Native.Nat.{ℕ, _-_, _*_}
 use mathlib.Core.Bool.{Bool, false}
@@ -24,10 +24,15 @@ use Rattle.transfer_list.specs.declared.header.Header.{Header}
 use Rattle.transfer_list.specs.declared.header.HeaderRead.{HeaderRead}
 use Rattle.transfer_list.specs.declared.header.HeaderRead.the-variants as header
 
--- the lengths of list, image and areas are those at opening
+-- the lengths of list, image, areas and patch data are those at opening
 unfoldable pub sameLengths : Lengths → Lengths → Bool
 sameLengths a b =
-    both (eqb (a .list) (b .list)) (both (eqb (a .image) (b .image)) (both (eqb (a .stash) (b .stash)) (eqb (a .work) (b .work))))
+    both (eqb (a .list) (b .list))
+    (both (eqb (a .image) (b .image))
+    (both (eqb (a .stash) (b .stash))
+    (both (eqb (a .work) (b .work))
+    (both (eqb (a .result) (b .result))
+    (eqb (a .patch) (b .patch))))))
 
 -- a position `at` is at the start of a command line, and the line number is that position's; the text's end after an LF is a line start
 unfoldable pub atLine : List ℕ → Header → ℕ → ℕ → Bool
@@ -69,7 +74,7 @@ isPossible s lengths state =
 
 unfoldable pub termsUnder : Lengths → HeaderRead → Terms
 termsUnder lengths (header.Good h) = termsOf lengths h
-termsUnder lengths (header.Bad line) = record { image = 0; work = 0; stashes = 0; blocks = 0 }
+termsUnder lengths (header.Bad line) = record { image = 0; work = 0; result = 0; patch = 0; stashes = 0; blocks = 0 }
 
 -- what lines are checked against in a run
 unfoldable pub termsFor : List ℕ → Lengths → Terms

@@ -35,7 +35,13 @@ fn same_lengths(a: Lengths, b: Lengths) -> bool
     if a.stash != b.stash {
         return false;
     }
-    a.work == b.work
+    if a.work != b.work {
+        return false;
+    }
+    if a.result != b.result {
+        return false;
+    }
+    a.patch == b.patch
 }
 
 // The position before another; 0 has none.
@@ -143,6 +149,8 @@ pub fn terms_for(list: &[u8], lengths: Lengths) -> Terms
         HeaderRead::Bad(_) => Terms {
             image: 0,
             work: 0,
+            result: 0,
+            patch: 0,
             stashes: 0,
             blocks: 0,
         },

@@ -1,12 +1,17 @@
--- A number below the bound compares with a bounded sum as with the whole.
+-- A number below the bound compares with a bounded sum as with the whole; and the code's "not" is `no`.
 -- Assumes nothing.
 use mathlib.Core.Path.{_≡_, refl}
-use mathlib.Core.Bool.{Bool, true, false}
+use mathlib.Core.Bool.{Bool, true, false, not}
 use Prim.Native.Nat.{ℕ, _<_}
 use native.Mathlib.Omega.{arith}
 use lib.Dec.{leb, ltb, eqb}
 use borrow.Author.Tests.{eq-eqb, ne-eqb, eqb-true, eqb-false, le-leb, lt-leb, leb-true, leb-false, lt-ltb, le-ltb, ltb-true, ltb-false}
+use Rattle.text.specs.Choice.{no}
 use Rattle.state.specs.Sums.{bound, bounded}
+
+pub not-no : (a : Bool) → not a ≡ no a
+not-no true = refl
+not-no false = refl
 
 module _ (m n : ℕ) (l : n < bound) where
   pub eqb-bounded : eqb (bounded m) n ≡ eqb m n

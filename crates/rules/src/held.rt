@@ -37,6 +37,12 @@ pub fn hold_after(
             length: _,
             source: _,
         } => count,
+        Command::Bsdiff {
+            patching: _,
+            target: _,
+            length: _,
+            source: _,
+        } => count,
         Command::Unsupported => count,
         Command::Bad(_) => count,
     }

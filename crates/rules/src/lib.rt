@@ -4,6 +4,7 @@ ghost use mathlib.Core.List.{List};
 ghost use Prim.Native.Nat.{ℕ};
 ghost use Rattle.state.specs.Stashes.{tableAt, heldIn};
 ghost use Rattle.rules.specs.Rules.{targetRefusal, tooMuch, stashRefusal, freeRefusal, refusalFor, checkedOf};
+use crate::moves::check_bsdiff;
 use crate::moves::check_move;
 use crate::moves::work_blocks;
 use command::Command;
@@ -17,8 +18,8 @@ use state::refusals::HELD_ALREADY;
 use state::refusals::LINE_FORM;
 use state::refusals::NO_ROOM;
 use state::refusals::NOT_HELD;
+use state::refusals::PAST_AREA;
 use state::refusals::PAST_IMAGE;
-use state::refusals::PAST_WORK;
 use state::refusals::UNSUPPORTED;
 use state::stashes::Found;
 use state::stashes::blocks_before;
@@ -30,10 +31,13 @@ pub mod held;
 mod moves;
 mod places;
 
-// The blocks of the image and of the work area; and lines 3 and 4 of the list: the most stashes and the most blocks held at once.
+// The blocks of the image, of the work area and of the result area; the bytes of the patch data; and lines 3 and 4 of the list: the most
+// stashes and the most blocks held at once.
 pub struct Terms {
     pub image: usize,
     pub work: usize,
+    pub result: usize,
+    pub patch: usize,
     pub stashes: u32,
     pub blocks: u32,
 }
@@ -77,7 +81,7 @@ fn check_stash<'a>(
         return PAST_IMAGE;
     }
     if work_blocks(terms) < set.blocks {
-        return PAST_WORK;
+        return PAST_AREA;
     }
     if let Found::At(_) = find_stash(hashes, count, hash) {
         return HELD_ALREADY;
@@ -124,6 +128,22 @@ fn check_command<'a>(
             hashes,
             sizes,
             count,
+            target,
+            length as usize,
+            source,
+        ),
+        Command::Bsdiff {
+            patching,
+            target,
+            length,
+            source,
+        } => check_bsdiff(
+            l,
+            terms,
+            hashes,
+            sizes,
+            count,
+            patching,
             target,
             length as usize,
             source,

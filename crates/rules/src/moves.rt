@@ -1,17 +1,18 @@
-// The rules of a `move`.
+// The rules of a `move` and of a `bsdiff`.
 ghost use mathlib.Core.Path.{_≡_};
 ghost use mathlib.Core.List.{List};
 ghost use Prim.Native.Nat.{ℕ, _<_};
 ghost use Rattle.state.specs.Stashes.{Stash, tableAt, heldIn};
 ghost use Rattle.state.specs.Sums.{bound};
 ghost use Rattle.command.specs.Parts.{usesAt};
-ghost use Rattle.rules.specs.Move.{workBlocks, sizeFound, sourcePast, sourceOver, usesBy, sourceDiffers, moveRefusal};
+ghost use Rattle.rules.specs.Move.{workBlocks, sizeFound, sourcePast, sourceOver, usesBy, sourceDiffers, sourcedRefusal, moveRefusal, patchPast, bsdiffRefusal};
 ghost use Rattle.rules.specs.Sums.{sumsOf, sumsWith};
 use crate::Terms;
 use crate::places::places_fit;
 use command::parts::PartRead;
 use command::parts::read_part;
 use command::source::Source;
+use command::sourced::Patching;
 use ranges::RangeSet;
 use state::limits::HASH_BYTES;
 use state::limits::MOST_AREA_BLOCKS;
@@ -19,8 +20,9 @@ use state::limits::MOST_STASHES;
 use state::limits::TABLE_BYTES;
 use state::refusals::MISPLACED;
 use state::refusals::NOT_HELD;
+use state::refusals::PAST_AREA;
 use state::refusals::PAST_IMAGE;
-use state::refusals::PAST_WORK;
+use state::refusals::PAST_PATCH;
 use state::refusals::SIZES_DIFFER;
 use state::stashes::Found;
 use state::stashes::find_stash;
@@ -205,6 +207,55 @@ fn source_differs(n: usize, source: Source, sums: Sums) -> bool
     }
 }
 
+// 8 to 12 of a command with a target, N and a source, 0 for none. What is asked of the target's size differs by the command: `over` is its
+// 9, `differs` its 11.
+fn check_sourced<'a>(
+    l: &[u8],
+    terms: Terms,
+    hashes: &'a [u8; TABLE_BYTES],
+    sizes: &'a [usize; MOST_STASHES],
+    count: usize,
+    over: bool,
+    differs: bool,
+    target: RangeSet,
+    n: usize,
+    source: Source,
+) -> usize
+    requires { ⌜ n < bound ⌝ }
+    ensures { λ r. ⌜ r ≡ sourcedRefusal (now (l .entry)) terms (heldIn (tableAt (now (hashes .entry)) (now (sizes .entry)) count))
+        over differs target n source ⌝ }
+{
+    if terms.image < target.end as usize {
+        return PAST_IMAGE;
+    }
+    if source_past(terms, source) {
+        return PAST_IMAGE;
+    }
+    if over {
+        return PAST_AREA;
+    }
+    if work_blocks(terms) < n {
+        return PAST_AREA;
+    }
+    if source_over(terms, source) {
+        return PAST_AREA;
+    }
+    let sums = source_sums(l, hashes, sizes, count, source);
+    if sums.missing {
+        return NOT_HELD;
+    }
+    if differs {
+        return SIZES_DIFFER;
+    }
+    if source_differs(n, source, sums) {
+        return SIZES_DIFFER;
+    }
+    if places_fit(l, n, source) {
+        return 0;
+    }
+    MISPLACED
+}
+
 // The lowest number that applies to a `move`, 0 for none.
 pub(crate) fn check_move<'a>(
     l: &[u8],
@@ -220,30 +271,62 @@ pub(crate) fn check_move<'a>(
     ensures { λ r. ⌜ r ≡
         moveRefusal (now (l .entry)) terms (heldIn (tableAt (now (hashes .entry)) (now (sizes .entry)) count)) target n source ⌝ }
 {
-    if terms.image < target.end as usize {
-        return PAST_IMAGE;
+    let differs = target.blocks != n;
+    check_sourced(
+        l,
+        terms,
+        hashes,
+        sizes,
+        count,
+        false,
+        differs,
+        target,
+        n,
+        source,
+    )
+}
+
+// The patch ends past the patch data.
+fn is_past_patch(terms: Terms, patching: Patching) -> bool
+    ensures { λ r. ⌜ r ≡ patchPast terms patching ⌝ }
+{
+    terms.patch < patching.start as usize + patching.length as usize
+}
+
+// The lowest number that applies to a `bsdiff`, 0 for none.
+pub(crate) fn check_bsdiff<'a>(
+    l: &[u8],
+    terms: Terms,
+    hashes: &'a [u8; TABLE_BYTES],
+    sizes: &'a [usize; MOST_STASHES],
+    count: usize,
+    patching: Patching,
+    target: RangeSet,
+    n: usize,
+    source: Source,
+) -> usize
+    requires { ⌜ n < bound ⌝ }
+    ensures { λ r. ⌜ r ≡
+        bsdiffRefusal (now (l .entry)) terms (heldIn (tableAt (now (hashes .entry)) (now (sizes .entry)) count)) patching target n source ⌝ }
+{
+    let over = terms.result < target.blocks;
+    let refusal = check_sourced(
+        l,
+        terms,
+        hashes,
+        sizes,
+        count,
+        over,
+        false,
+        target,
+        n,
+        source,
+    );
+    if refusal != 0 {
+        return refusal;
     }
-    if source_past(terms, source) {
-        return PAST_IMAGE;
+    if is_past_patch(terms, patching) {
+        return PAST_PATCH;
     }
-    if work_blocks(terms) < n {
-        return PAST_WORK;
-    }
-    if source_over(terms, source) {
-        return PAST_WORK;
-    }
-    let sums = source_sums(l, hashes, sizes, count, source);
-    if sums.missing {
-        return NOT_HELD;
-    }
-    if target.blocks != n {
-        return SIZES_DIFFER;
-    }
-    if source_differs(n, source, sums) {
-        return SIZES_DIFFER;
-    }
-    if places_fit(l, n, source) {
-        return 0;
-    }
-    MISPLACED
+    0
 }

@@ -1,14 +1,17 @@
-// Runs the lists that standard input describes, and prints what each call leaves: the outcome, the bytes taken, the image, the stash area
-// and the work area. An area is printed as a letter for each block that is filled with it, 0 for zeros, and for any other block the first
+// Runs the lists that standard input describes, and prints what each call leaves: the outcome, the bytes taken, the image, the stash area,
+// the work area and the result area. An area is printed as a letter for each block that is filled with it, 0 for zeros, and for any other block the first
 // digits of its SHA-1 in brackets. A line of input is one of these; any other, as a comment, is passed over:
-//   case LABEL                         a new list, an image ABCDEFGH, both areas 000
-//   image LETTERS [BYTES]              another image, a letter for a block, or only the first BYTES of it; so too `stash` and `work`
+//   case LABEL                         a new list, an image ABCDEFGH, every area 000, no patch data
+//   image LETTERS [BYTES]              another image, a letter for a block, or only the first BYTES of it; so too `stash`, `work`, `result`
+//   record ADD EXTRA SEEK              more patch data: a record's mark and its control triple, each number as its 64 bits
+//   bytes N BYTE                       the same: one byte N times
+//   patch N                            only its first N bytes
 //   list                               starts the list anew, with nothing
 //   |TEXT, +TEXT, repeat N |TEXT       a line of the list; bytes with no LF; a line N times
 //   open                               opens the list over the areas: the state
 //   set at|line|into|count N           alters the state
 //   refusal NUMBER LINE                the same
-//   lengths LIST IMAGE STASH WORK      the same
+//   lengths LIST IMAGE STASH WORK RESULT PATCH   the same
 //   hold HASH BLOCKS                   the same: one stash more
 //   call FROM N                        one call, with N bytes of the new data
 //   run N CUT ..                       an opening and the calls over the first N bytes of the new data, cut into pieces
@@ -16,6 +19,7 @@
 ghost use Prim.Native.Nat.{_≤_};
 use crate::areas::lend_area;
 use crate::areas::lend_list;
+use crate::patches::lend_patch;
 use crate::say::report;
 use crate::states::alter;
 use libc::STDIN_FILENO;
@@ -31,6 +35,7 @@ use transfer_list::open;
 use updater::call;
 
 mod areas;
+mod patches;
 mod say;
 mod states;
 
@@ -48,14 +53,18 @@ fn lend(
     image: &mut [u8],
     stash: &mut [u8],
     work: &mut [u8],
+    result: &mut [u8],
+    patch: &mut [u8],
     l: Lengths,
 ) -> Lengths {
-    let word = which(line, b"case list image stash work");
+    let word = which(line, b"case list image stash work result");
     Lengths {
         list: lend_list(list, line, word, l.list),
         image: lend_area(image, line, word == 2, word == 0, b"ABCDEFGH", l.image),
         stash: lend_area(stash, line, word == 3, word == 0, b"000", l.stash),
         work: lend_area(work, line, word == 4, word == 0, b"000", l.work),
+        result: lend_area(result, line, word == 5, word == 0, b"000", l.result),
+        patch: lend_patch(patch, line, l.patch),
     }
 }
 
@@ -87,13 +96,24 @@ fn run_cut(
     image: &mut [u8],
     stash: &mut [u8],
     work: &mut [u8],
+    result: &mut [u8],
+    patch: &[u8],
     data: &[u8],
     cuts: &mut [usize],
 ) -> State {
     let bytes = part(data, 0, number(line, 1));
     let n = read_cuts(line, cuts);
-    let called = run_pieces(list, image, stash, work, bytes, first_cuts(&*cuts, n));
-    report(called, &*image, &*stash, &*work);
+    let called = run_pieces(
+        list,
+        image,
+        stash,
+        work,
+        result,
+        patch,
+        bytes,
+        first_cuts(&*cuts, n),
+    );
+    report(called, &*image, &*stash, &*work, &*result);
     called.state
 }
 
@@ -103,11 +123,13 @@ fn call_once(
     image: &mut [u8],
     stash: &mut [u8],
     work: &mut [u8],
+    result: &mut [u8],
+    patch: &[u8],
     piece: &[u8],
     s: State,
 ) -> State {
-    let called = call(list, image, stash, work, piece, s);
-    report(called, &*image, &*stash, &*work);
+    let called = call(list, image, stash, work, result, patch, piece, s);
+    report(called, &*image, &*stash, &*work, &*result);
     called.state
 }
 
@@ -118,18 +140,37 @@ fn act(
     image: &mut [u8],
     stash: &mut [u8],
     work: &mut [u8],
+    result: &mut [u8],
+    patch: &[u8],
     data: &[u8],
     s: State,
 ) -> State {
     match which(line, b"open call run") {
-        0 => open(list, image.len(), stash.len(), work.len()),
+        0 => open(
+            list,
+            image.len(),
+            stash.len(),
+            work.len(),
+            result.len(),
+            patch.len(),
+        ),
         1 => {
             let piece = part(data, number(line, 1), number(line, 2));
-            call_once(list, image, stash, work, piece, s)
+            call_once(list, image, stash, work, result, patch, piece, s)
         }
         2 => {
             let mut cuts = [0usize; MOST_CUTS];
-            run_cut(line, list, image, stash, work, data, &mut cuts)
+            run_cut(
+                line,
+                list,
+                image,
+                stash,
+                work,
+                result,
+                patch,
+                data,
+                &mut cuts,
+            )
         }
         _ => s,
     }
@@ -148,6 +189,8 @@ fn act_within(
     image: &mut [u8],
     stash: &mut [u8],
     work: &mut [u8],
+    result: &mut [u8],
+    patch: &[u8],
     data: &[u8],
     l: Lengths,
     s: State,
@@ -155,12 +198,15 @@ fn act_within(
     let image_end = least(l.image, image.len());
     let stash_end = least(l.stash, stash.len());
     let work_end = least(l.work, work.len());
+    let result_end = least(l.result, result.len());
     act(
         line,
         part(list, 0, l.list),
         &mut image[0..image_end],
         &mut stash[0..stash_end],
         &mut work[0..work_end],
+        &mut result[0..result_end],
+        part(patch, 0, l.patch),
         data,
         s,
     )
@@ -173,6 +219,8 @@ fn run(
     image: &mut [u8; AREA_ROOM],
     stash: &mut [u8; AREA_ROOM],
     work: &mut [u8; AREA_ROOM],
+    result: &mut [u8; AREA_ROOM],
+    patch: &mut [u8; AREA_ROOM],
     data: &[u8],
 ) {
     let mut l = Lengths {
@@ -180,16 +228,30 @@ fn run(
         image: 0,
         stash: 0,
         work: 0,
+        result: 0,
+        patch: 0,
     };
-    let mut s = open(b"", 0, 0, 0);
+    let mut s = open(b"", 0, 0, 0, 0, 0);
     let mut from = 0;
     let mut i = 0;
     while i < text.len() {
         if text[i] == b'\n' {
             let line = &text[from..i];
             from = i + 1;
-            l = lend(line, list, image, stash, work, l);
-            s = act_within(line, &*list, image, stash, work, data, l, alter(s, line));
+            l = lend(line, list, image, stash, work, result, patch, l);
+            let altered = alter(s, line);
+            s = act_within(
+                line,
+                &*list,
+                image,
+                stash,
+                work,
+                result,
+                &*patch,
+                data,
+                l,
+                altered,
+            );
         }
         i += 1;
     }
@@ -202,6 +264,8 @@ fn main() {
     let mut image = [0u8; AREA_ROOM];
     let mut stash = [0u8; AREA_ROOM];
     let mut work = [0u8; AREA_ROOM];
+    let mut result = [0u8; AREA_ROOM];
+    let mut patch = [0u8; AREA_ROOM];
     let mut data = io::large_buffer();
     fill_pattern(&mut data);
     run(
@@ -210,6 +274,8 @@ fn main() {
         &mut image,
         &mut stash,
         &mut work,
+        &mut result,
+        &mut patch,
         &data,
     );
 }

@@ -73,7 +73,7 @@ fn say_area(label: &[u8], area: &[u8]) {
     }
 }
 
-pub(crate) fn report(called: Called, image: &[u8], stash: &[u8], work: &[u8]) {
+pub(crate) fn report(called: Called, image: &[u8], stash: &[u8], work: &[u8], result: &[u8]) {
     let outcome = called.outcome;
     say_outcome(outcome);
     say(b", taken ");
@@ -81,5 +81,6 @@ pub(crate) fn report(called: Called, image: &[u8], stash: &[u8], work: &[u8]) {
     say_area(b", image ", image);
     say_area(b", stash ", stash);
     say_area(b", work ", work);
+    say_area(b", result ", result);
     say(b"\n");
 }

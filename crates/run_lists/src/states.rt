@@ -57,6 +57,8 @@ fn with_lengths(s: State, line: &[u8]) -> State {
         image: number(line, 2),
         stash: number(line, 3),
         work: number(line, 4),
+        result: number(line, 5),
+        patch: number(line, 6),
     };
     let mut next = s;
     next.lengths = lengths;

@@ -6,7 +6,7 @@ use Prim.Native.Nat.{ℕ, suc}
 use native.Mathlib.Nat.{zero-add}
 use native.Mathlib.Omega.{arith}
 use lib.ListN.{length}
-use Rattle.state.specs.Refusals.{none, hashDiffers}
+use Rattle.state.specs.Refusals.{none}
 use Rattle.state.specs.Stashes.{heldIn, entries}
 use Rattle.state.specs.declared.Lengths.{Lengths}
 use Rattle.state.specs.declared.Refusal.{Refusal}
@@ -16,6 +16,7 @@ use Rattle.transfer_list.specs.declared.header.Header.{Header}
 use Rattle.machine.specs.Machine.{Machine, feeds, counts}
 use Rattle.machine.specs.Pieces.{joined}
 use Rattle.updater.specs.Areas.{Areas}
+use Rattle.updater.specs.Effect.{InRun}
 use Rattle.updater.specs.Steps.{Config}
 use Rattle.updater.specs.Run.{machine}
 use Rattle.updater.specs.Calls.{lengthsAt, outcomeOf}
@@ -125,7 +126,7 @@ module _ (s : List ℕ) (a : Areas) (e : Accepted s a) where
     opened-whole : lastSays s q qs start ≡ outcome.More → lastTakes s q qs start ≡ length (lastPiece q qs)
     opened-whole = last-whole s lengths header q qs start starts starts-possible
 
-    opened-only : {refused : Refusal} → lastSays s q qs start ≡ outcome.Refused refused → refused .number ≡ hashDiffers
+    opened-only : {refused : Refusal} → lastSays s q qs start ≡ outcome.Refused refused → InRun (refused .number)
     opened-only = last-only s lengths header q qs start starts starts-possible
 
   opened-alike : (q r : List ℕ) (qs rs : List (List ℕ)) → joined (q ∷ qs) ≡ joined (r ∷ rs) → Alike s a q r qs rs
@@ -148,5 +149,5 @@ claim =
       only-written = opened-written;
       only-read = only-read;
       whole = opened-whole;
-      only-hash = opened-only;
+      only-run = opened-only;
     }

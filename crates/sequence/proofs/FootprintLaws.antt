@@ -1,17 +1,19 @@
 -- The lines of a list that was opened change, of the image, only the blocks of their targets, of the work area only the blocks of their
--- sources, and of the stash area only line 4's blocks: a step without a byte, a byte of new data, and any number of them.
+-- sources, of the result area only those of their results, and of the stash area only line 4's blocks: a step without a byte, a byte of new data, and any number of them.
 -- Assumes nothing.
-use mathlib.Core.Path.{_≡_, refl, subst}
+use mathlib.Core.Path.{_≡_, refl, subst, _∙_}
 use mathlib.Core.Bool.{true, false}
 use mathlib.Core.List.{List, []}
-use Prim.Native.Nat.{ℕ, _*_, _≤_, _<_}
+use Prim.Native.Nat.{ℕ, _*_, _/_, _≤_, _<_}
 use native.Mathlib.Omega.{arith}
 use borrow.Author.Tests.{ltb-true, eqb-true}
 use lib.Dec.{ltb, eqb}
 use lib.ListN.{length, take, set, length-take}
 use Rattle.text.specs.Line.{lineAt}
 use Rattle.text.proofs.ChoiceLaws.{picks, both-true, either-false}
-use Rattle.ranges.specs.Walk.{blocksAt}
+use Rattle.text.specs.Hash.{hashAt}
+use Rattle.ranges.specs.Walk.{blocksAt, AllBelow}
+use Rattle.ranges.specs.declared.RangeSet.{RangeSet}
 use Rattle.state.specs.Limits.{blockBytes}
 use Rattle.state.specs.Refusals.{none}
 use Rattle.state.specs.Stashes.{Stash, held, findIn, blocksHeld}
@@ -24,21 +26,25 @@ use Rattle.command.specs.Commands.{commandOf}
 use Rattle.command.specs.Targets.{newTarget, onNewTarget, targetBlocks}
 use Rattle.command.specs.declared.targets.NewTarget.{NewTarget}
 use Rattle.command.specs.declared.targets.NewTarget.the-variants as new
+use Rattle.command.specs.declared.source.Source.{Source}
+use Rattle.command.specs.declared.sourced.Patching.{Patching}
 use Rattle.command.specs.declared.Command.{Command}
 use Rattle.command.specs.declared.Command.the-variants as command
 use Rattle.rules.specs.Rules.{refusalFor, refusalOf}
 use Rattle.rules.specs.declared.Terms.{Terms}
-use Rattle.rules.proofs.RuleLaws.{stash-fits, move-fits}
+use Rattle.rules.proofs.RuleLaws.{stash-fits, move-fits, bsdiff-fits}
 use Rattle.transfer_list.specs.Header.{headerOf}
 use Rattle.transfer_list.specs.Opening.{firstAt, termsOf}
 use Rattle.transfer_list.specs.declared.header.Header.{Header}
 use Rattle.machine.specs.Machine.{feeds}
 use Rattle.machine.proofs.MachineLaws.{Sound, feeds-keeps}
-use Rattle.updater.specs.Areas.{Areas, withImage, withWork}
+use Rattle.patch.specs.Patch.{isPatch, patchedBy}
+use Rattle.patch.proofs.PatchLaws.{patched-length}
+use Rattle.updater.specs.Areas.{Areas, withImage, withStash, withWork, withResult}
 use Rattle.updater.specs.Bytes.{addressOf}
 use Rattle.updater.specs.Source.{supplied, together, closedUp, hashesTo}
-use Rattle.updater.specs.Effect.{Effect, verified, zeroEffect, targetWritten, moveEffect, stashWritten, stashEffect, closedFound}
-use Rattle.updater.specs.Effect.{freeEffect, effect}
+use Rattle.updater.specs.Effect.{Effect, done, verified, zeroEffect, targetWritten, moveEffect, patchOf, resultEffect, patchEffect}
+use Rattle.updater.specs.Effect.{bsdiffEffect, stashWritten, stashEffect, closedFound, freeEffect, effect}
 use Rattle.updater.specs.Runnable.{Runnable}
 use Rattle.updater.specs.Steps.{Config, passed, refusedWith, furtherInto, stateAfter, after}
 use Rattle.updater.specs.Run.{currentLine, currentCommand, refusalHere, quietStep, newBlocks, newBytes, putByte, isStopped, needsByte}
@@ -47,7 +53,7 @@ use Rattle.updater.proofs.FitLaws.{not-stopped}
 use Rattle.updater.proofs.AtLineLaws.{stepHere, step}
 use Rattle.updater.proofs.RunLaws.{is-new}
 use Rattle.updater.proofs.RunnableLaws.{runnable}
-use Rattle.sequence.specs.Footprint.{SameIn, sourceLength, commandAt, mostBlocks, UpTo, OnlyWritten}
+use Rattle.sequence.specs.Footprint.{SameIn, sourceLength, resultLength, commandAt, mostBlocks, UpTo, OnlyWritten}
 use Rattle.sequence.proofs.Running.{Running}
 use Rattle.sequence.proofs.RunningLaws.{running-line, running-sound}
 use Rattle.sequence.proofs.SameLaws.{same, same-then, same-fewer, OutOf, Past, over-same, moved-same, zeroed-same, written-same}
@@ -59,16 +65,62 @@ use Rattle.sequence.proofs.SameLaws.{put-same, supplied-same, together-
 record Writes (l : List ℕ) (c : Command) (n : ℕ) (before after : Areas) : Type 0 where
   image : SameIn (OutOf (targetBlocks l c)) (before .image) (after .image)
   work : SameIn (Past (sourceLength c)) (before .work) (after .work)
+  result : SameIn (Past (resultLength c)) (before .result) (after .result)
   stash : SameIn (Past n) (before .stash) (after .stash)
+  patch : after .patch ≡ before .patch
 
 writes-nothing : (l : List ℕ) (c : Command) (n : ℕ) (a : Areas) → Writes l c n a a
-writes-nothing l c n a = record { image = same (a .image); work = same (a .work); stash = same (a .stash) }
+writes-nothing l c n a =
+    record { image = same (a .image); work = same (a .work); result = same (a .result); stash = same (a .stash); patch = refl }
+
+-- one area alone
+module _ {l : List ℕ} {c : Command} {n : ℕ} {a : Areas} where
+  writes-image : {image : List ℕ} → SameIn (OutOf (targetBlocks l c)) (a .image) image → Writes l c n a (withImage a image)
+  writes-image e = record { image = e; work = same (a .work); result = same (a .result); stash = same (a .stash); patch = refl }
+
+  writes-work : {work : List ℕ} → SameIn (Past (sourceLength c)) (a .work) work → Writes l c n a (withWork a work)
+  writes-work e = record { image = same (a .image); work = e; result = same (a .result); stash = same (a .stash); patch = refl }
+
+  writes-result : {result : List ℕ} → SameIn (Past (resultLength c)) (a .result) result → Writes l c n a (withResult a result)
+  writes-result e = record { image = same (a .image); work = same (a .work); result = e; stash = same (a .stash); patch = refl }
+
+  writes-stash : {stash : List ℕ} → SameIn (Past n) (a .stash) stash → Writes l c n a (withStash a stash)
+  writes-stash e = record { image = same (a .image); work = same (a .work); result = same (a .result); stash = e; patch = refl }
+
+-- .. and then another
+writes-then : {l : List ℕ} {c : Command} {n : ℕ} {a b d : Areas} → Writes l c n a b → Writes l c n b d → Writes l c n a d
+writes-then e f =
+    record {
+      image = same-then (e .image) (f .image);
+      work = same-then (e .work) (f .work);
+      result = same-then (e .result) (f .result);
+      stash = same-then (e .stash) (f .stash);
+      patch = f .patch ∙ e .patch;
+    }
+
+-- what a patch changes, with the source in the work area
+patch-writes : (l : List ℕ) (k : ℕ) (a : Areas) (patching : Patching) (target : RangeSet) (n : ℕ) (source : Source) →
+    AllBelow (length (a .image) / blockBytes) (blocksAt l (target .at)) → target .blocks ≤ length (a .result) / blockBytes →
+    Writes l (command.Bsdiff patching target n source) k a (patchEffect l patching target n a .areas)
+unfolding patchEffect resultEffect targetBlocks resultLength
+patch-writes l k a patching target n source below room =
+    let c = command.Bsdiff patching target n source in
+    let p = patchOf patching a in
+    let bytes = patchedBy p (take (blockBytes * n) (a .work)) in
+    picks (λ (x : Effect). Writes l c k a (x .areas)) (isPatch p (blockBytes * target .blocks)) _ _
+    (λ g.
+    let size = patched-length p (take (blockBytes * n) (a .work)) (blockBytes * target .blocks) g in
+    let made = writes-result (over-same (a .result) 0 bytes (target .blocks) (omega arith) (omega arith)) in
+    picks (λ (x : Effect). Writes l c k a (x .areas)) (hashesTo _ (target .blocks) (hashAt l (patching .digest) .bytes)) _ _
+    (λ h. writes-then made (writes-image (written-same (blocksAt l (target .at)) _ (a .image) below)))
+    (λ h. made))
+    (λ g. writes-nothing l c k a)
 
 module _ (l : List ℕ) (terms : Terms) (held : List Stash) (hash : List ℕ) (a : Areas)
     (blocks : blocksHeld held ≤ terms .blocks) (room : blockBytes * terms .blocks ≤ length (a .stash)) where
   -- where the hash differs, only the work area was filled
-  verified-writes : (c : Command) (n : ℕ) (go : Areas → Areas) (b : Areas) → Writes l c (terms .blocks) a b →
-      Writes l c (terms .blocks) a (go b) → Writes l c (terms .blocks) a (verified n hash go b .areas)
+  verified-writes : (c : Command) (n : ℕ) (go : Areas → Effect) (b : Areas) → Writes l c (terms .blocks) a b →
+      Writes l c (terms .blocks) a (go b .areas) → Writes l c (terms .blocks) a (verified n hash go b .areas)
   verified-writes c n go b e f =
       picks (λ (x : Effect). Writes l c (terms .blocks) a (x .areas)) (hashesTo (b .work) n hash) _ _ (λ t. f) (λ t. e)
 
@@ -81,38 +133,33 @@ module _ (l : List ℕ) (terms : Terms) (held : List Stash) (hash : List ℕ) (a
 
   effect-writes : (c : Command) → refusalFor l terms held hash c ≡ none → Runnable l held a c →
       Writes l c (terms .blocks) a (effect l held hash c a .areas)
-  unfolding effect zeroEffect moveEffect stashEffect freeEffect Runnable targetBlocks sourceLength
-  effect-writes (command.Zero set) e r =
-      record { image = zeroed-same (blocksAt l (set .at)) (a .image) (r .below); work = same (a .work); stash = same (a .stash) }
-  effect-writes (command.Erase set) e r =
-      record { image = zeroed-same (blocksAt l (set .at)) (a .image) (r .below); work = same (a .work); stash = same (a .stash) }
+  unfolding effect zeroEffect moveEffect bsdiffEffect stashEffect freeEffect Runnable targetBlocks sourceLength resultLength
+  effect-writes (command.Zero set) e r = writes-image (zeroed-same (blocksAt l (set .at)) (a .image) (r .below))
+  effect-writes (command.Erase set) e r = writes-image (zeroed-same (blocksAt l (set .at)) (a .image) (r .below))
   effect-writes (command.New set) e r = writes-nothing l (command.New set) (terms .blocks) a
   effect-writes (command.Move target n source) e r =
       let w = together l (a .image) (a .stash) held source (a .work) in
       let f = move-fits l terms held hash e refl in
-      let work = together-same l (a .stash) held n terms (a .image) source (a .work) (f .from) (r .room) in
-      verified-writes (command.Move target n source) n (targetWritten l target n) (withWork a w)
-      (record { image = same (a .image); work = work; stash = same (a .stash) })
-      (record {
-        image = written-same (blocksAt l (target .at)) (take (blockBytes * n) w) (a .image) (r .goal .below);
-        work = work;
-        stash = same (a .stash);
-      })
+      let filled = writes-work (together-same l (a .stash) held n terms (a .image) source (a .work) (f .from) (r .room)) in
+      verified-writes (command.Move target n source) n (done (targetWritten l target n)) (withWork a w) filled
+      (writes-then filled (writes-image (written-same (blocksAt l (target .at)) (take (blockBytes * n) w) (a .image) (r .goal .below))))
+  effect-writes (command.Bsdiff patching target n source) e r =
+      let w = together l (a .image) (a .stash) held source (a .work) in
+      let f = bsdiff-fits l terms held hash e refl in
+      let filled = writes-work (together-same l (a .stash) held n terms (a .image) source (a .work) (f .from) (r .patched .room)) in
+      verified-writes (command.Bsdiff patching target n source) n (patchEffect l patching target n) (withWork a w) filled
+      (writes-then filled (patch-writes l (terms .blocks) (withWork a w) patching target n source (r .patched .goal .below) (r .patched .holds)))
   effect-writes (command.Stash set) e r =
       let w = supplied l (a .image) (set .at) (set .blocks) (a .work) in
       let f = stash-fits l terms held hash e refl in
-      let work = supplied-same l (a .stash) held (set .blocks) (a .image) (set .at) (a .work) (r .room) in
+      let filled = writes-work (supplied-same l (a .stash) held (set .blocks) (a .image) (set .at) (a .work) (r .room)) in
       let most = f .room in
       let short = length-take (blockBytes * set .blocks) w in
-      verified-writes (command.Stash set) (set .blocks) (stashWritten held (set .blocks)) (withWork a w)
-      (record { image = same (a .image); work = work; stash = same (a .stash) })
-      (record {
-        image = same (a .image);
-        work = work;
-        stash =
-            over-same (a .stash) (blockBytes * blocksHeld held) (take (blockBytes * set .blocks) w) (terms .blocks) (omega arith) (omega arith);
-      })
-  effect-writes command.Free e r = record { image = same (a .image); work = same (a .work); stash = closed-same (findIn held hash) }
+      verified-writes (command.Stash set) (set .blocks) (done (stashWritten held (set .blocks))) (withWork a w) filled
+      (writes-then filled
+      (writes-stash
+      (over-same (a .stash) (blockBytes * blocksHeld held) (take (blockBytes * set .blocks) w) (terms .blocks) (omega arith) (omega arith))))
+  effect-writes command.Free e r = writes-stash (closed-same (findIn held hash))
   effect-writes command.Unsupported e r = writes-nothing l command.Unsupported (terms .blocks) a
   effect-writes (command.Bad p) e r = writes-nothing l (command.Bad p) (terms .blocks) a
 
@@ -121,7 +168,7 @@ byte-writes : (l : List ℕ) (held : List Stash) (a : Areas) (n : ℕ) (c : Comm
     Writes l c n a (withImage a (set (a .image) (addressOf (newBlocks l c) k) x))
 unfolding newBytes newBlocks targetBlocks Runnable
 byte-writes l held a n c k x r h =
-    record { image = go (newTarget c) refl h; work = same (a .work); stash = same (a .stash) }
+    writes-image (go (newTarget c) refl h)
   where
     go : (t : NewTarget) → newTarget c ≡ t → k < onNewTarget t (λ set. blockBytes * set .blocks) 0 →
         SameIn (OutOf (targetBlocks l c)) (a .image) (set (a .image) (addressOf (onNewTarget t (λ set. blocksAt l (set .at)) []) k) x)
@@ -135,7 +182,8 @@ byte-writes l held a n c k x r h =
 
 -- before any line has run nothing has changed
 pub written-none : (s : List ℕ) (last : ℕ) (a : Areas) → OnlyWritten s last a a
-written-none s last a = record { image = same (a .image); work = same (a .work); stash = same (a .stash) }
+written-none s last a =
+    record { image = same (a .image); work = same (a .work); result = same (a .result); stash = same (a .stash); patch = refl }
 
 up-to-later : {s : List ℕ} {last later at : ℕ} → last ≤ later → UpTo s last at → UpTo s later at
 up-to-later h u = record { first = u .first; reached = omega (arith, u .reached); start = u .start }
@@ -150,7 +198,10 @@ module _ (s : List ℕ) (a₀ : Areas) where
             same-then (same-fewer (λ b e at v. e at (up-to-later h v)) (w .image)) (same-fewer (λ b e. e last (up-to-later h u)) (x .image));
         work =
             same-then (same-fewer (λ b e at v. e at (up-to-later h v)) (w .work)) (same-fewer (λ b e. e last (up-to-later h u)) (x .work));
+        result =
+            same-then (same-fewer (λ b e at v. e at (up-to-later h v)) (w .result)) (same-fewer (λ b e. e last (up-to-later h u)) (x .result));
         stash = same-then (w .stash) (x .stash);
+        patch = x .patch ∙ w .patch;
       }
 
 -- a step without a byte does not go back

@@ -64,6 +64,8 @@ module _ (s : List ℕ) (a : Areas) (o : Opening s (lengthsAt s a)) where
         image = refl;
         most-image = o .image .fits;
         work = refl;
+        result = refl;
+        patch = refl;
         stash = omega (arith, o .blocks);
         most-blocks = omega (arith, o .blocks, o .stash .fits);
         most-stashes = o .stashes;
@@ -87,7 +89,7 @@ module _ (s : List ℕ) (a : Areas) (o : Opening s (lengthsAt s a)) where
   starts z e =
       record {
         fits = fits;
-        lent = record { opened = refl; list = refl; image = refl; stash = refl; work = refl };
+        lent = record { opened = refl; list = refl; image = refl; stash = refl; work = refl; result = refl; patch = refl };
         start = z;
         header = o .read;
         at-line = record { first = omega arith; ended = header-last s (o .read); line = sym (header-lines s (o .read)) };

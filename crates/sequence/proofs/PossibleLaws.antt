@@ -77,6 +77,8 @@ same-lengths lengths =
       eq-eqb (lengths .image) (lengths .image) refl,
       eq-eqb (lengths .stash) (lengths .stash) refl,
       eq-eqb (lengths .work) (lengths .work) refl,
+      eq-eqb (lengths .result) (lengths .result) refl,
+      eq-eqb (lengths .patch) (lengths .patch) refl,
     )
 
 -- ---- a configuration of a run
@@ -97,7 +99,7 @@ module _ (s : List ℕ) (lengths : Lengths) (h : Header) (p : Config) (v : Runni
           some-into s (termsOf lengths h) (p .state) (into-some s (termsOf lengths h) p e)
 
   lengths-here : lengthsAt s (p .areas) ≡ lengths
-  lengths-here = rw (← v .lent .list, ← v .lent .image, ← v .lent .stash, ← v .lent .work)
+  lengths-here = rw (← v .lent .list, ← v .lent .image, ← v .lent .stash, ← v .lent .work, ← v .lent .result, ← v .lent .patch)
 
   at-line-true : atLine s h (p .state .line) (p .state .at) ≡ true
   unfolding atLine

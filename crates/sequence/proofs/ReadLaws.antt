@@ -20,9 +20,13 @@ use Rattle.command.specs.declared.source.Source.{Source}
 use Rattle.command.specs.declared.source.Source.the-variants.{Blocks, Stashes, Both}
 use Rattle.command.specs.declared.Command.the-variants as command
 use Rattle.rules.specs.Move.{isIn}
+use Rattle.text.specs.Hash.{hashAt}
+use Rattle.patch.specs.Patch.{isPatch}
 use Rattle.updater.specs.Bytes.{blockAt, gathered}
 use Rattle.updater.specs.Source.{supplied, together, hashesTo}
-use Rattle.updater.specs.Effect.{Effect, zeroEffect, moveEffect, stashEffect, freeEffect, effect}
+use Rattle.updater.specs.Areas.{withWork}
+use Rattle.updater.specs.Effect.{Effect, zeroEffect, moveEffect, patchOf, resultMade, resultEffect, patchEffect, bsdiffEffect, stashEffect}
+use Rattle.updater.specs.Effect.{freeEffect, effect}
 use Rattle.sequence.specs.Footprint.{SameIn, SameButImage, OnlyRead}
 use Rattle.sequence.proofs.SameLaws.{same-fewer}
 
@@ -67,8 +71,9 @@ module _ (l : List ℕ) {a b : List ℕ} where
 
 -- ---- a command
 
-alike : {x y : Effect} → y .areas .stash ≡ x .areas .stash → y .areas .work ≡ x .areas .work → y .refusal ≡ x .refusal → SameButImage x y
-alike s w r = record { stash = s; work = w; refusal = r }
+alike : {x y : Effect} → y .areas .stash ≡ x .areas .stash → y .areas .work ≡ x .areas .work → y .areas .result ≡ x .areas .result →
+    y .refusal ≡ x .refusal → SameButImage x y
+alike s w r n = record { stash = s; work = w; result = r; refusal = n }
 
 -- by the same test
 alike-pick : (t : Bool) {x y x' y' : Effect} → SameButImage x x' → SameButImage y y' → SameButImage (pick t x y) (pick t x' y')
@@ -76,18 +81,27 @@ alike-pick true e f = e
 alike-pick false e f = f
 
 pub only-read : OnlyRead
-unfolding effect zeroEffect moveEffect stashEffect freeEffect sourceBlocks
-only-read l held hash (command.Zero set) a image f = alike refl refl refl
-only-read l held hash (command.Erase set) a image f = alike refl refl refl
-only-read l held hash (command.New set) a image f = alike refl refl refl
+unfolding effect zeroEffect moveEffect bsdiffEffect patchEffect resultEffect stashEffect freeEffect sourceBlocks
+only-read l held hash (command.Zero set) a image f = alike refl refl refl refl
+only-read l held hash (command.Erase set) a image f = alike refl refl refl refl
+only-read l held hash (command.New set) a image f = alike refl refl refl refl
 only-read l held hash (command.Move target n source) a image f =
     rw (together-reads l (a .stash) held source (a .work) f)
-    (alike-pick (hashesTo (together l (a .image) (a .stash) held source (a .work)) n hash) (alike refl refl refl) (alike refl refl refl))
+    (alike-pick (hashesTo (together l (a .image) (a .stash) held source (a .work)) n hash) (alike refl refl refl refl) (alike refl refl refl refl))
+only-read l held hash (command.Bsdiff patching target n source) a image f =
+    let work = together l (a .image) (a .stash) held source (a .work) in
+    let made = resultMade patching n (withWork a work) .result in
+    rw (together-reads l (a .stash) held source (a .work) f)
+    (alike-pick (hashesTo work n hash)
+    (alike-pick (isPatch (patchOf patching a) (blockBytes * target .blocks))
+    (alike-pick (hashesTo made (target .blocks) (hashAt l (patching .digest) .bytes)) (alike refl refl refl refl) (alike refl refl refl refl))
+    (alike refl refl refl refl))
+    (alike refl refl refl refl))
 only-read l held hash (command.Stash set) a image f =
     rw (supplied-reads l (set .at) (set .blocks) (a .work) f)
     (alike-pick (hashesTo (supplied l (a .image) (set .at) (set .blocks) (a .work)) (set .blocks) hash)
-    (alike refl refl refl)
-    (alike refl refl refl))
-only-read l held hash command.Free a image f = alike refl refl refl
-only-read l held hash command.Unsupported a image f = alike refl refl refl
-only-read l held hash (command.Bad p) a image f = alike refl refl refl
+    (alike refl refl refl refl)
+    (alike refl refl refl refl))
+only-read l held hash command.Free a image f = alike refl refl refl refl
+only-read l held hash command.Unsupported a image f = alike refl refl refl refl
+only-read l held hash (command.Bad p) a image f = alike refl refl refl refl

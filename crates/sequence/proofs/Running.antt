@@ -10,7 +10,7 @@ use Rattle.text.specs.Line.{lineAt, lineNumber}
 use Rattle.text.specs.Expected.{lf}
 use Rattle.ranges.specs.declared.RangeSet.{RangeSet}
 use Rattle.state.specs.Limits.{blockBytes}
-use Rattle.state.specs.Refusals.{none, hashDiffers}
+use Rattle.state.specs.Refusals.{none}
 use Rattle.state.specs.Stashes.{held, heldTwice}
 use Rattle.state.specs.States.{noRefusal}
 use Rattle.state.specs.declared.Lengths.{Lengths}
@@ -23,6 +23,7 @@ use Rattle.transfer_list.specs.Header.{headerOf, startRefusal}
 use Rattle.transfer_list.specs.Opening.{termsOf, linesRefusal}
 use Rattle.transfer_list.specs.declared.header.Header.{Header}
 use Rattle.transfer_list.specs.declared.header.HeaderRead.the-variants.{Good}
+use Rattle.updater.specs.Effect.{InRun}
 use Rattle.updater.specs.Fits.{Fits}
 use Rattle.updater.specs.Steps.{Config}
 use Rattle.updater.proofs.RunLaws.{is-new}
@@ -36,10 +37,10 @@ pub record WalkLeft (s : List ℕ) (terms : Terms) (h : Header) (p : Config) : T
   pub enough : length s < n + p .state .at
   pub accepted : linesRefusal n s terms h (p .state .line) (p .state .at) (held (p .state)) counted ≡ noRefusal
 
--- nothing is refused and the walk goes on from here, or a hash differed
-pub data OpenOrDiffered (s : List ℕ) (terms : Terms) (h : Header) (p : Config) : Type 0 where
-  going : p .state .refusal ≡ noRefusal → WalkLeft s terms h p → OpenOrDiffered s terms h p
-  differed : p .state .refusal .number ≡ hashDiffers → OpenOrDiffered s terms h p
+-- nothing is refused and the walk goes on from here, or a command stopped
+pub data OpenOrStopped (s : List ℕ) (terms : Terms) (h : Header) (p : Config) : Type 0 where
+  going : p .state .refusal ≡ noRefusal → WalkLeft s terms h p → OpenOrStopped s terms h p
+  halted : InRun (p .state .refusal .number) → OpenOrStopped s terms h p
 
 -- the line at a position is a good `new` with that many bytes or more
 pub record IntoNew (s : List ℕ) (terms : Terms) (at into : ℕ) : Type 0 where
@@ -59,6 +60,8 @@ pub record Lent (s : List ℕ) (lengths : Lengths) (p : Config) : Type 0 where
   pub image : lengths .image ≡ length (p .areas .image)
   pub stash : lengths .stash ≡ length (p .areas .stash)
   pub work : lengths .work ≡ length (p .areas .work)
+  pub result : lengths .result ≡ length (p .areas .result)
+  pub patch : lengths .patch ≡ length (p .areas .patch)
 
 -- the state is at the start of a command line and has its number
 pub record AtLine (s : List ℕ) (h : Header) (state : State) : Type 0 where
@@ -75,4 +78,4 @@ pub record Running (s : List ℕ) (lengths : Lengths) (h : Header) (p : Config) 
   pub at-line : AtLine s h (p .state)
   pub once : heldTwice (held (p .state)) ≡ false
   pub into : Into s (termsOf lengths h) (p .state)
-  pub goes : OpenOrDiffered s (termsOf lengths h) h p
+  pub goes : OpenOrStopped s (termsOf lengths h) h p

@@ -7,14 +7,14 @@ use mathlib.Core.List.{List}
 use mathlib.Core.Logic.{_⊎_, inl, inr, ⊎-elim}
 use Prim.Native.Nat.{ℕ, _+_, _-_, _*_, _<_}
 use native.Mathlib.Omega.{arith}
-use borrow.Author.Tests.{ltb-true, eqb-true, eq-eqb}
+use borrow.Author.Tests.{ltb-true, eqb-true, eq-eqb, ne-eqb}
 use lib.Dec.{ltb, eqb}
 use lib.ListN.{length, length-set}
 use Rattle.text.proofs.ChoiceLaws.{both-true, either-false}
 use Rattle.text.proofs.LineLaws.{line-some, line-mark}
 use Rattle.ranges.specs.declared.RangeSet.{RangeSet}
 use Rattle.state.specs.Limits.{blockBytes}
-use Rattle.state.specs.Refusals.{none, hashDiffers}
+use Rattle.state.specs.Refusals.{none}
 use Rattle.state.specs.Stashes.{Stash, tableOf, held}
 use Rattle.state.specs.declared.Lengths.{Lengths}
 use Rattle.state.specs.declared.Refusal.{Refusal}
@@ -35,14 +35,15 @@ use Rattle.transfer_list.specs.declared.header.Header.{Header}
 use Rattle.transfer_list.proofs.OpeningLaws.{Passed, lines-next}
 use Rattle.machine.proofs.MachineLaws.{Sound}
 use Rattle.updater.specs.Areas.{SameLengths}
+use Rattle.updater.specs.Effect.{InRun}
 use Rattle.updater.specs.Fits.{Fits}
 use Rattle.updater.specs.Steps.{Config, passed, refusedWith, furtherInto, stateAfter, after}
 use Rattle.updater.specs.Run.{machine, currentLine, currentCommand, refusalHere, quietStep, newBytes, putByte, isStopped, needsByte}
-use Rattle.updater.proofs.EffectLaws.{effect-refusal}
+use Rattle.updater.proofs.EffectLaws.{in-run-some, effect-refusal}
 use Rattle.updater.proofs.FitLaws.{not-stopped, quiet-lengths, fits-sound}
 use Rattle.updater.proofs.AtLineLaws.{stepHere, step}
 use Rattle.updater.proofs.RunLaws.{is-new}
-use Rattle.sequence.proofs.Running.{WalkLeft, OpenOrDiffered, going, differed, IntoNew, Into, Lent, Running}
+use Rattle.sequence.proofs.Running.{WalkLeft, OpenOrStopped, going, halted, IntoNew, Into, Lent, Running}
 
 -- ---- the walk goes on
 
@@ -56,9 +57,9 @@ pub record PastLine (l : List ℕ) (t u : State) : Type 0 where
   pub holds : held u ≡ heldAfter (held t) (commandOf l .hash) (commandOf l .command)
 
 module _ (s : List ℕ) (terms : Terms) (h : Header) (p : Config) where
-  pub going-here : OpenOrDiffered s terms h p → p .state .refusal .number ≡ none → WalkLeft s terms h p
+  pub going-here : OpenOrStopped s terms h p → p .state .refusal .number ≡ none → WalkLeft s terms h p
   going-here (going e g) z = g
-  going-here (differed e) z = absurd (omega arith)
+  going-here (halted e) z = absurd (in-run-some e z)
 
   module _ (g : WalkLeft s terms h p) (l : p .state .at < length s) where
     pub going-passed : Passed (g .n - 1) s terms h (p .state .line) (p .state .at) (held (p .state)) (g .counted)
@@ -107,10 +108,12 @@ module _ (s : List ℕ) (lengths : Lengths) (h : Header) where
         image = v .image ∙ sym (a .image);
         stash = v .stash ∙ sym (a .stash);
         work = v .work ∙ sym (a .work);
+        result = v .result ∙ sym (a .result);
+        patch = v .patch ∙ sym (a .patch);
       }
 
   running-stays : (p q : Config) → Running s lengths h p → Fits s (termsOf lengths h) q → SameLengths (p .areas) (q .areas) → Stays (p .state) (q .state) →
-      Into s (termsOf lengths h) (q .state) → OpenOrDiffered s (termsOf lengths h) h q → Running s lengths h q
+      Into s (termsOf lengths h) (q .state) → OpenOrStopped s (termsOf lengths h) h q → Running s lengths h q
   running-stays p q v f a y i g =
       record {
         fits = f;
@@ -134,13 +137,13 @@ module _ (s : List ℕ) (lengths : Lengths) (h : Header) where
     running-line z l =
         going-passed s (termsOf lengths h) h p (going-here s (termsOf lengths h) h p (v .goes) z) l .good
 
-    -- a run is refused with 16 alone
-    pub running-only : (p .state .refusal .number ≡ none) ⊎ (p .state .refusal .number ≡ hashDiffers)
+    -- a run is refused with 16 or 19 alone
+    pub running-only : (p .state .refusal .number ≡ none) ⊎ InRun (p .state .refusal .number)
     running-only = go (v .goes)
       where
-        go : OpenOrDiffered s (termsOf lengths h) h p → (p .state .refusal .number ≡ none) ⊎ (p .state .refusal .number ≡ hashDiffers)
+        go : OpenOrStopped s (termsOf lengths h) h p → (p .state .refusal .number ≡ none) ⊎ InRun (p .state .refusal .number)
         go (going e g) = inl (ap (λ (r : Refusal). r .number) e)
-        go (differed e) = inr e
+        go (halted e) = inr e
 
     -- the next line is reached
     running-past : (q : Config) → p .state .refusal .number ≡ none → p .state .at < length s → Fits s (termsOf lengths h) q →
@@ -169,18 +172,18 @@ module _ (s : List ℕ) (lengths : Lengths) (h : Header) where
           goes = ongoing (v .goes);
         }
       where
-        ongoing : OpenOrDiffered s (termsOf lengths h) h p → OpenOrDiffered s (termsOf lengths h) h q
+        ongoing : OpenOrStopped s (termsOf lengths h) h p → OpenOrStopped s (termsOf lengths h) h q
         ongoing (going e g) = going (w .refusal ∙ e) (going-next s (termsOf lengths h) h p g l q w)
-        ongoing (differed e) = absurd (omega arith)
+        ongoing (halted e) = absurd (in-run-some e z)
 
-    running-differed : (q : Config) → Fits s (termsOf lengths h) q → SameLengths (p .areas) (q .areas) →
-        q .state ≡ refusedWith (p .state) hashDiffers → Running s lengths h q
+    running-halted : (q : Config) (number : ℕ) → InRun number → Fits s (termsOf lengths h) q → SameLengths (p .areas) (q .areas) →
+        q .state ≡ refusedWith (p .state) number → Running s lengths h q
     unfolding refusedWith
-    running-differed q f a e =
+    running-halted q number n f a e =
         running-stays p q v f a
-        (subst (Stays (p .state)) (sym e) (stays-refused (p .state) hashDiffers))
+        (subst (Stays (p .state)) (sym e) (stays-refused (p .state) number))
         (subst (Into s (termsOf lengths h)) (sym e) (v .into))
-        (differed (ap (λ (t : State). t .refusal .number) e))
+        (halted (subst InRun (sym (ap (λ (t : State). t .refusal .number) e)) n))
 
     -- what a command that is done leaves of the state, and one that stops
     done-past : {number : ℕ} → number ≡ none → refusalHere s (termsOf lengths h) p ≡ none →
@@ -200,11 +203,11 @@ module _ (s : List ℕ) (lengths : Lengths) (h : Header) where
               (v .fits .most-stashes) (command-hash (currentLine s p)) (currentCommand s p) e;
         })
 
-    stop-state : {number : ℕ} → number ≡ hashDiffers →
+    stop-state : {number : ℕ} → InRun number →
         stateAfter (currentLine s p) (commandOf (currentLine s p) .hash) (currentCommand s p) (p .state) number
-        ≡ refusedWith (p .state) hashDiffers
+        ≡ refusedWith (p .state) number
     unfolding stateAfter
-    stop-state n = rw n
+    stop-state {number} n = rw (ne-eqb number none (in-run-some n))
 
     -- a command on its line
     running-after : (q : Config) → q ≡ stepHere s p → p .state .refusal .number ≡ none → p .state .at < length s →
@@ -215,7 +218,7 @@ module _ (s : List ℕ) (lengths : Lengths) (h : Header) where
         let t = ap (λ (r : Config). r .state) e in
         ⊎-elim
         (λ n. running-past q z l f a (subst (PastLine line (p .state)) (sym t) (done-past n (running-line z l))))
-        (λ n. running-differed q f a (t ∙ stop-state n))
+        (λ n. running-halted q _ n f a (t ∙ stop-state n))
         (effect-refusal line (held (p .state)) (commandOf line .hash) (currentCommand s p) (p .areas))
 
 -- ---- where a run needs a byte
@@ -267,14 +270,14 @@ module _ (s : List ℕ) (lengths : Lengths) (h : Header) where
       let n : needsByte s (termsOf lengths h) p ≡ true = rw e at w in
       running-stays s lengths h p (putByte s x p) v
       (fits-sound s (termsOf lengths h) .put-keeps p x (v .fits) w e)
-      (record { image = length-set (p .areas .image) _ x; stash = refl; work = refl })
+      (record { image = length-set (p .areas .image) _ x; stash = refl; work = refl; result = refl; patch = refl })
       (stays-further (p .state) 1)
       (inr (into-more s (termsOf lengths h) p n))
       (ongoing (v .goes))
     where
-      ongoing : OpenOrDiffered s (termsOf lengths h) h p → OpenOrDiffered s (termsOf lengths h) h (putByte s x p)
+      ongoing : OpenOrStopped s (termsOf lengths h) h p → OpenOrStopped s (termsOf lengths h) h (putByte s x p)
       ongoing (going e g) = going e (going-stays s (termsOf lengths h) h p (putByte s x p) (stays-further (p .state) 1) g)
-      ongoing (differed e) = differed e
+      ongoing (halted e) = halted e
 
   pub running-sound : Sound (machine s (termsOf lengths h)) (Running s lengths h)
   running-sound =

@@ -19,11 +19,11 @@ use Rattle.state.proofs.StashLaws.{same-refl}
 use Rattle.command.specs.Words.{wordIn}
 use Rattle.command.specs.Fields.{numberField, hashField, setField, lastSet}
 use Rattle.command.specs.Parts.{partEnd, placesFrom, partAt, partsIn, partsAt, partsField, usesIn, usesAt}
-use Rattle.command.specs.Commands.{rangeLine, withPlaces, afterBlocks, sourceFrom, sourceField, moveTo, moveFrom, freeFrom, hashedLine, commandOf}
+use Rattle.command.specs.Commands.{rangeLine, withPlaces, afterBlocks, sourceFrom, sourceField, lengthFrom, targetFrom, freeFrom, hashedLine, commandOf}
 use Rattle.command.specs.Targets.{newTarget}
 use Rattle.rules.specs.Held.{heldAfter}
 use Rattle.rules.specs.Move.{sourcePast, sourceOver, usesBy, someMissing, stashBlocks, someDiffer, placesNamed, sourceDiffers, placesOf}
-use Rattle.rules.specs.Move.{placesBy, isIn, someMisplaced, moveRefusal}
+use Rattle.rules.specs.Move.{placesBy, isIn, someMisplaced, sourcedRefusal, moveRefusal}
 use Rattle.rules.specs.Rules.{freeRefusal, refusalFor, refusalOf}
 use Rattle.updater.specs.Bytes.{zeroed, putBytes}
 use Rattle.updater.specs.Source.{stashBytes, spread, supplied, together, hashesTo, closedUp}
@@ -91,8 +91,8 @@ module _ (A B C D E F G H T1 T2 T3 W1 W2 W3 : Block) where
   table : Table A B C D E F G H T1 T2 T3 W1 W2 W3
   unfolding digits numberFrom numberAt expectedAt isFirstWord itemAt pairAt pairsAt setAt sizeOf endOf summary rangesAt span blocksOf pairsOf
       rangesOf blocksAt AllBelow hexOf wordIn numberField hashField setField lastSet rangeLine withPlaces afterBlocks sourceFrom sourceField
-      moveTo moveFrom freeFrom hashedLine commandOf partEnd placesFrom partAt partsIn partsAt partsField usesIn usesAt findIn isHeld sizeAt blocksHeld without sourcePast sourceOver usesBy someMissing stashBlocks
-      someDiffer placesNamed sourceDiffers placesOf placesBy isIn someMisplaced moveRefusal freeRefusal refusalFor refusalOf stashBytes
+      lengthFrom targetFrom freeFrom hashedLine commandOf partEnd placesFrom partAt partsIn partsAt partsField usesIn usesAt findIn isHeld sizeAt blocksHeld without sourcePast sourceOver usesBy someMissing stashBlocks
+      someDiffer placesNamed sourceDiffers placesOf placesBy isIn someMisplaced sourcedRefusal moveRefusal freeRefusal refusalFor refusalOf stashBytes
       spread supplied together closedUp hashesTo newTarget heldAfter zeroEffect moveEffect freeEffect effect pickedOf putAt zeroed
   table =
       record {

@@ -1,6 +1,6 @@
 -- Calls over a run, one to a piece: each is what the machine does with its piece, and together they come to one call over all the bytes.
 -- Assumes nothing.
-use mathlib.Core.Path.{_≡_, refl, sym, ap, _∙_}
+use mathlib.Core.Path.{_≡_, refl, sym, subst, ap, _∙_}
 use mathlib.Core.Bool.{Bool, true, false}
 use mathlib.Core.Logic.{⊎-elim}
 use mathlib.Core.List.{List, [], _∷_}
@@ -11,7 +11,7 @@ use lib.Dec.{leb, eqb}
 use borrow.Author.Tests.{eqb-true, eqb-false}
 use Rattle.text.specs.Choice.{pick, either, no}
 use Rattle.text.proofs.ChoiceLaws.{bool}
-use Rattle.state.specs.Refusals.{none, hashDiffers}
+use Rattle.state.specs.Refusals.{none}
 use Rattle.state.specs.declared.Lengths.{Lengths}
 use Rattle.state.specs.declared.Refusal.{Refusal}
 use Rattle.state.specs.declared.State.{State}
@@ -22,6 +22,7 @@ use Rattle.possible.specs.Possible.{isPossible}
 use Rattle.machine.specs.Machine.{Machine, feeds, counts}
 use Rattle.machine.specs.Pieces.{joined, calls, totals}
 use Rattle.machine.proofs.MachineLaws.{feeds-keeps, feeds-waits, feeds-stopped, counts-stopped, counts-all, calls-joined, totals-joined}
+use Rattle.updater.specs.Effect.{InRun}
 use Rattle.updater.specs.Steps.{Config}
 use Rattle.updater.specs.Run.{machine, isStopped}
 use Rattle.updater.specs.Calls.{lengthsAt, isRun, outcomeAt, outcomeOf, leaves, takes, says}
@@ -170,10 +171,10 @@ module _ (s : List ℕ) (lengths : Lengths) (h : Header) where
     pub last-running : Running s lengths h (leavesAll s (q ∷ qs) p)
     last-running = rw leaves-joined (feeds-keeps machineHere (Running s lengths h) (runs .sound) (joined (q ∷ qs)) p v)
 
-    pub last-only : {refused : Refusal} → lastSays s q qs p ≡ outcome.Refused refused → refused .number ≡ hashDiffers
+    pub last-only : {refused : Refusal} → lastSays s q qs p ≡ outcome.Refused refused → InRun (refused .number)
     last-only e =
         let f = refused-number s (leavesAll s (q ∷ qs) p .state) (sym (last-says q qs p v a) ∙ e) in
         ⊎-elim
         (λ z. absurd (f .0 z))
-        (λ z. ap (λ (r : Refusal). r .number) (sym (f .1)) ∙ z)
+        (λ z. subst InRun (ap (λ (r : Refusal). r .number) (f .1)) z)
         (running-only s lengths h (leavesAll s (q ∷ qs) p) last-running)

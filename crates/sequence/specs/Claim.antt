@@ -1,11 +1,12 @@
 -- The claim over every sequence of calls: however the new data is cut into pieces, one to a call, empty ones and calls after the end or
--- after a refusal included, what stands after the last call is what the model gives for the pieces joined.
+-- after a refusal included, what stands after the last call is what the model gives for the pieces joined. The calls are lent the same list
+-- and the same patch data, and each the areas as the one before left them.
 -- Assumes nothing: these are definitions.
 use mathlib.Core.Path.{_≡_}
 use mathlib.Core.List.{List, _∷_}
 use Prim.Native.Nat.{ℕ}
 use lib.ListN.{length}
-use Rattle.state.specs.Refusals.{none, hashDiffers}
+use Rattle.state.specs.Refusals.{none}
 use Rattle.state.specs.States.{noRefusal}
 use Rattle.state.specs.Stashes.{held}
 use Rattle.state.specs.declared.Lengths.{Lengths}
@@ -14,6 +15,7 @@ use Rattle.state.specs.declared.State.{State}
 use Rattle.transfer_list.specs.Opening.{openRefusal, openState}
 use Rattle.machine.specs.Pieces.{joined}
 use Rattle.updater.specs.Areas.{Areas}
+use Rattle.updater.specs.Effect.{InRun}
 use Rattle.updater.specs.Steps.{Config, configOf}
 use Rattle.updater.specs.Calls.{lengthsAt}
 use Rattle.updater.specs.declared.Outcome.the-variants as outcome
@@ -25,7 +27,7 @@ use Rattle.sequence.specs.Footprint.{OnlyWritten, OnlyRead}
 abbrev pub openedConfig : List ℕ → Areas → Config
 openedConfig s a = configOf a (openState s (lengthsAt s a))
 
--- an opening is accepted when none of 1 to 15 applies
+-- an opening is accepted when none of 1 to 15 and 18 applies
 abbrev pub Accepted : List ℕ → Areas → Type 0
 Accepted s a = openRefusal s (lengthsAt s a) ≡ noRefusal
 
@@ -62,18 +64,18 @@ pub record Claim : Type 0 where
   -- sequences that join alike end alike
   pub alike : (s : List ℕ) (a : Areas) → Accepted s a →
       (q r : List ℕ) (qs rs : List (List ℕ)) → joined (q ∷ qs) ≡ joined (r ∷ rs) → Alike s a q r qs rs
-  -- of the image only the targets of the lines up to the current one change, of the work area only the largest source, of the stash area
-  -- only what line 4 allows
+  -- of the image only the targets of the lines up to the current one change, of the work area only the largest source, of the result area
+  -- only the largest result, of the stash area only what line 4 allows, and of the patch data nothing
   pub only-written : (s : List ℕ) (a : Areas) → Accepted s a →
       (q : List ℕ) (qs : List (List ℕ)) →
       OnlyWritten s (leavesAll s (q ∷ qs) (openedConfig s a) .state .at) a (leavesAll s (q ∷ qs) (openedConfig s a) .areas)
-  -- what a command puts together and stashes depends on its source blocks of the image alone
+  -- what a command puts together, patches and stashes depends, of the image, on its source blocks alone
   pub only-read : OnlyRead
   -- a call whose outcome is more took its whole piece
   pub whole : (s : List ℕ) (a : Areas) → Accepted s a →
       (q : List ℕ) (qs : List (List ℕ)) → lastSays s q qs (openedConfig s a) ≡ outcome.More →
       lastTakes s q qs (openedConfig s a) ≡ length (lastPiece q qs)
-  -- a run can only give 16
-  pub only-hash : (s : List ℕ) (a : Areas) → Accepted s a →
+  -- a run can only give 16 or 19
+  pub only-run : (s : List ℕ) (a : Areas) → Accepted s a →
       (q : List ℕ) (qs : List (List ℕ)) {refused : Refusal} →
-      lastSays s q qs (openedConfig s a) ≡ outcome.Refused refused → refused .number ≡ hashDiffers
+      lastSays s q qs (openedConfig s a) ≡ outcome.Refused refused → InRun (refused .number)

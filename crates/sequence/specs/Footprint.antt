@@ -1,4 +1,4 @@
--- Document 01, "The list text", "Putting a source together" and "The stash area": which blocks of the lent areas the lines of a text may
+-- Document 01, "The list text", "Putting a source together" and "The stash area", and document 02, R-4: which blocks of the lent areas the lines of a text may
 -- change, and which blocks of the image a command reads. Demand: of the image only a command's target blocks change.
 -- Assumes nothing: these are definitions.
 use mathlib.Core.Path.{_≡_}
@@ -29,16 +29,29 @@ pub record SameIn (blocks : ℕ → Type 0) (before after : List ℕ) : Type 0 w
 
 -- ---- what lines write
 
--- the blocks of the work area that a command fills: N of a `move`, as many as S has of a `stash`
+-- the blocks of the work area that a command fills: N of a `move` or a `bsdiff`, as many as S has of a `stash`
 unfoldable pub sourceLength : Command → ℕ
 sourceLength (command.Zero set) = 0
 sourceLength (command.Erase set) = 0
 sourceLength (command.New set) = 0
 sourceLength (command.Move target n source) = n
+sourceLength (command.Bsdiff patching target n source) = n
 sourceLength (command.Stash set) = set .blocks
 sourceLength command.Free = 0
 sourceLength command.Unsupported = 0
 sourceLength (command.Bad p) = 0
+
+-- the blocks of the result area that a command fills: as many as R has of a `bsdiff`
+unfoldable pub resultLength : Command → ℕ
+resultLength (command.Zero set) = 0
+resultLength (command.Erase set) = 0
+resultLength (command.New set) = 0
+resultLength (command.Move target n source) = 0
+resultLength (command.Bsdiff patching target n source) = target .blocks
+resultLength (command.Stash set) = 0
+resultLength command.Free = 0
+resultLength command.Unsupported = 0
+resultLength (command.Bad p) = 0
 
 abbrev pub commandAt : List ℕ → ℕ → Command
 commandAt s at = commandOf (lineAt s at) .command
@@ -55,22 +68,27 @@ pub record UpTo (s : List ℕ) (last at : ℕ) : Type 0 where
   pub start : getD s (at - 1) 0 ≡ lf
 
 -- once the lines up to the one at `last` were reached, these blocks are as before: of the image those in no target of theirs, of the work
--- area those past every source of theirs, of the stash area those past line 4's
+-- area those past every source of theirs, of the result area those past every result of theirs, of the stash area those past line 4's; and
+-- so is all of the patch data
 pub record OnlyWritten (s : List ℕ) (last : ℕ) (before after : Areas) : Type 0 where
   pub image : SameIn (λ b. (at : ℕ) → UpTo s last at → isIn b (targetBlocks (lineAt s at) (commandAt s at)) ≡ false)
       (before .image) (after .image)
   pub work : SameIn (λ b. (at : ℕ) → UpTo s last at → sourceLength (commandAt s at) ≤ b) (before .work) (after .work)
+  pub result : SameIn (λ b. (at : ℕ) → UpTo s last at → resultLength (commandAt s at) ≤ b) (before .result) (after .result)
   pub stash : SameIn (λ b. mostBlocks (headerOf s) ≤ b) (before .stash) (after .stash)
+  pub patch : after .patch ≡ before .patch
 
 -- ---- what a command reads
 
--- two effects leave the same stash and work area, and stop with the same number
+-- two effects leave the same stash, work and result area, and stop with the same number
 pub record SameButImage (x y : Effect) : Type 0 where
   pub stash : y .areas .stash ≡ x .areas .stash
   pub work : y .areas .work ≡ x .areas .work
+  pub result : y .areas .result ≡ x .areas .result
   pub refusal : y .refusal ≡ x .refusal
 
--- of the image a command reads its source blocks alone: what it puts together and stashes is the same over an image that is alike there
+-- of the image a command reads its source blocks alone: what it puts together, patches and stashes is the same over an image that is alike
+-- there
 abbrev pub OnlyRead : Type 0
 OnlyRead =
     (l : List ℕ) (held : List Stash) (hash : List ℕ) (c : Command) (a : Areas) (image : List ℕ) →

@@ -70,9 +70,9 @@ pub record IllFormed (t : List ℕ) : Type 0 where
   pub fault : ℕ
   pub read : rangesAt t 0 ≡ ranges.Bad fault
 
--- what lines are checked against: an image of 8 blocks, a stash area and a work area of 3
+-- what lines are checked against: an image of 8 blocks, a stash area and a work area of 3, no result area and no patch data
 abbrev pub terms : Terms
-terms = record { image = 8; work = 3; stashes = 3; blocks = 3 }
+terms = record { image = 8; work = 3; result = 0; patch = 0; stashes = 3; blocks = 3 }
 
 -- what a line leaves, with those bytes of new data not yet taken: it is checked, then the model does it; a refused one changes nothing
 abbrev pub done : List ℕ → Model → List ℕ → Model
@@ -89,7 +89,7 @@ module _ (A B C D E F G H T1 T2 T3 W1 W2 W3 : Block) where
   abbrev pub holding : List Block → List Stash → Model
   holding area stashes =
       record {
-        areas = areasOf (bytesOf (A ∷ B ∷ C ∷ D ∷ E ∷ F ∷ G ∷ H ∷ [])) (bytesOf area) (bytesOf (W1 ∷ W2 ∷ W3 ∷ []));
+        areas = areasOf (bytesOf (A ∷ B ∷ C ∷ D ∷ E ∷ F ∷ G ∷ H ∷ [])) (bytesOf area) (bytesOf (W1 ∷ W2 ∷ W3 ∷ [])) [] [];
         stashes = stashes;
         line = firstLine;
         at = 0;

@@ -26,13 +26,22 @@ pub fn run_pieces(
     image: &mut [u8],
     stash: &mut [u8],
     work: &mut [u8],
+    result: &mut [u8],
+    patch: &[u8],
     bytes: &[u8],
     cuts: &[usize],
 ) -> Called
-    ensures { λ r. ⌜ resultOf (areasOf (now (image .exit)) (now (stash .exit)) (now (work .exit))) r ≡ runCuts (now (list .entry)) (areasOf (now (image .entry)) (now (stash .entry)) (now (work .entry))) (now (bytes .entry)) (now (cuts .entry)) ⌝ }
-    ensures { λ r. ⌜ RunMeets (now (list .entry)) (areasOf (now (image .entry)) (now (stash .entry)) (now (work .entry))) (now (bytes .entry)) (resultOf (areasOf (now (image .exit)) (now (stash .exit)) (now (work .exit))) r) ⌝ }
+    ensures { λ r. ⌜ resultOf (areasOf (now (image .exit)) (now (stash .exit)) (now (work .exit)) (now (result .exit)) (now (patch .entry))) r ≡ runCuts (now (list .entry)) (areasOf (now (image .entry)) (now (stash .entry)) (now (work .entry)) (now (result .entry)) (now (patch .entry))) (now (bytes .entry)) (now (cuts .entry)) ⌝ }
+    ensures { λ r. ⌜ RunMeets (now (list .entry)) (areasOf (now (image .entry)) (now (stash .entry)) (now (work .entry)) (now (result .entry)) (now (patch .entry))) (now (bytes .entry)) (resultOf (areasOf (now (image .exit)) (now (stash .exit)) (now (work .exit)) (now (result .exit)) (now (patch .entry))) r) ⌝ }
 {
-    let opened = open(list, image.len(), stash.len(), work.len());
+    let opened = open(
+        list,
+        image.len(),
+        stash.len(),
+        work.len(),
+        result.len(),
+        patch.len(),
+    );
     let refusal = opened.refusal;
     if refusal.number != 0 {
         return Called {
@@ -47,13 +56,22 @@ pub fn run_pieces(
     let mut k = 0;
     while k < cuts.len() {
         let end = piece_end(from, cuts[k], bytes.len());
-        let called = call(list, image, stash, work, &bytes[from..end], s);
+        let called = call(
+            list,
+            image,
+            stash,
+            work,
+            result,
+            patch,
+            &bytes[from..end],
+            s,
+        );
         s = called.state;
         total = total + called.taken;
         from = end;
         k += 1;
     }
-    let last = call(list, image, stash, work, &bytes[from..], s);
+    let last = call(list, image, stash, work, result, patch, &bytes[from..], s);
     let state = last.state;
     let outcome = last.outcome;
     Called {

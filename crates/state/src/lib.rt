@@ -14,13 +14,15 @@ pub struct Refusal {
     pub line: usize,
 }
 
-// The lengths in bytes of the list, the image and the two areas.
+// The lengths in bytes of the list, the image, the three areas and the patch data.
 #[repr(C)]
 pub struct Lengths {
     pub list: usize,
     pub image: usize,
     pub stash: usize,
     pub work: usize,
+    pub result: usize,
+    pub patch: usize,
 }
 
 // The stashes held, oldest first, a hash and a number of blocks each, and how many they are. The current line's number and where it

@@ -1,5 +1,5 @@
--- Document 01, "Refusal numbers", and document 02, R-1: an opening checks the whole text, changes nothing, and gives number and line. An
--- opening is accepted when none of 1 to 15 applies.
+-- Document 01, "Refusal numbers", and document 02, R-1 and R-4: an opening checks the whole text, changes nothing, and gives number and
+-- line. An opening is accepted when none of 1 to 15 and 18 applies.
 -- Assumes nothing: these are definitions.
 use Prim.Native.Nat.{ℕ, zero, suc, _+_, _/_}
 use mathlib.Core.List.{List, [], _∷_}
@@ -26,16 +26,25 @@ use Rattle.transfer_list.specs.declared.header.Header.{Header}
 use Rattle.transfer_list.specs.declared.header.HeaderRead.{HeaderRead}
 use Rattle.transfer_list.specs.declared.header.HeaderRead.the-variants.{Good, Bad}
 
--- what a line is checked against: the areas' blocks, and lines 3 and 4
+-- what a line is checked against: the areas' blocks, the patch data's bytes, and lines 3 and 4
 abbrev pub termsOf : Lengths → Header → Terms
-termsOf lengths h = record { image = lengths .image / blockBytes; work = lengths .work / blockBytes; stashes = h .stashes; blocks = h .blocks }
+termsOf lengths h =
+    record {
+      image = lengths .image / blockBytes;
+      work = lengths .work / blockBytes;
+      result = lengths .result / blockBytes;
+      patch = lengths .patch;
+      stashes = h .stashes;
+      blocks = h .blocks;
+    }
 
--- R-1: line 2 must equal the total target size of `new`, `zero` and `move`; `erase` is not counted. What a command adds to that total: the
--- size of R, a block named twice counted twice
+-- R-1: line 2 must equal the total target size of `new`, `zero` and `move`; `erase` is not counted. R-4: the total counts the targets of
+-- `bsdiff` too. What a command adds to that total: the size of R, a block named twice counted twice
 unfoldable pub countedBlocks : Command → ℕ
 countedBlocks (command.New target) = target .blocks
 countedBlocks (command.Zero target) = target .blocks
 countedBlocks (command.Move target n source) = target .blocks
+countedBlocks (command.Bsdiff patching target n source) = target .blocks
 -- the others add nothing
 countedBlocks (command.Erase target) = 0
 countedBlocks (command.Stash set) = 0
@@ -77,13 +86,17 @@ firstAt (Bad line) = 0
 unfoldable pub acceptedState : List ℕ → Lengths → State
 acceptedState s lengths = stateAt firstLine (firstAt (headerOf s)) noRefusal lengths
 
+abbrev pub noLengths : Lengths
+noLengths = record { list = 0; image = 0; stash = 0; work = 0; result = 0; patch = 0 }
+
 -- a refused opening's state holds that refusal and is otherwise zero
 unfoldable pub refusedState : Refusal → State
-refusedState refused = stateAt 0 0 refused (record { list = 0; image = 0; stash = 0; work = 0 })
+refusedState refused = stateAt 0 0 refused noLengths
 
--- the lengths of the text and of the areas
-abbrev pub lengthsOf : List ℕ → ℕ → ℕ → ℕ → Lengths
-lengthsOf s image stash work = record { list = length s; image = image; stash = stash; work = work }
+-- the lengths of the text, of the areas and of the patch data
+abbrev pub lengthsOf : List ℕ → ℕ → ℕ → ℕ → ℕ → ℕ → Lengths
+lengthsOf s image stash work result patch =
+    record { list = length s; image = image; stash = stash; work = work; result = result; patch = patch }
 
 -- what an opening gives: the state, which holds its refusal, if any
 unfoldable pub openState : List ℕ → Lengths → State

@@ -7,6 +7,7 @@ use state::limits::BLOCK_BYTES;
 use state::limits::MOST_AREA_BLOCKS;
 use state::limits::MOST_IMAGE_BLOCKS;
 use state::limits::MOST_LIST_BYTES;
+use state::limits::MOST_RESULT_BLOCKS;
 use state::limits::MOST_STASHES;
 use state::refusals::AREA_SIZE;
 use state::refusals::HEADER_FORM;
@@ -95,7 +96,10 @@ fn are_areas(lengths: Lengths) -> bool
     if !is_area(MOST_AREA_BLOCKS, lengths.stash) {
         return false;
     }
-    is_area(MOST_AREA_BLOCKS, lengths.work)
+    if !is_area(MOST_AREA_BLOCKS, lengths.work) {
+        return false;
+    }
+    is_area(MOST_RESULT_BLOCKS, lengths.result)
 }
 
 fn check_header(lengths: Lengths, read: HeaderRead) -> Refusal

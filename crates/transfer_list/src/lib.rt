@@ -35,6 +35,8 @@ pub fn terms_of(lengths: Lengths, h: Header) -> Terms
     Terms {
         image: lengths.image / BLOCK_BYTES,
         work: lengths.work / BLOCK_BYTES,
+        result: lengths.result / BLOCK_BYTES,
+        patch: lengths.patch,
         stashes: h.stashes,
         blocks: h.blocks,
     }
@@ -48,6 +50,12 @@ fn counted_blocks(command: Command) -> usize
         Command::New(target) => target.blocks,
         Command::Zero(target) => target.blocks,
         Command::Move {
+            target,
+            length: _,
+            source: _,
+        } => target.blocks,
+        Command::Bsdiff {
+            patching: _,
             target,
             length: _,
             source: _,
@@ -126,15 +134,25 @@ fn check_list(list: &[u8], lengths: Lengths) -> Refusal
     }
 }
 
-// Opens a list over an image, a stash area and a work area of the given lengths in bytes. The state holds the refusal, if any.
-pub fn open(list: &[u8], image: usize, stash: usize, work: usize) -> State
-    ensures { λ r. ⌜ r ≡ openState (now (list .entry)) (lengthsOf (now (list .entry)) image stash work) ⌝ }
+// Opens a list over an image, a stash area, a work area, a result area and patch data of the given lengths in bytes. The state holds the
+// refusal, if any.
+pub fn open(
+    list: &[u8],
+    image: usize,
+    stash: usize,
+    work: usize,
+    result: usize,
+    patch: usize,
+) -> State
+    ensures { λ r. ⌜ r ≡ openState (now (list .entry)) (lengthsOf (now (list .entry)) image stash work result patch) ⌝ }
 {
     let lengths = Lengths {
         list: list.len(),
         image,
         stash,
         work,
+        result,
+        patch,
     };
     let refusal = check_list(list, lengths);
     if refusal.number != 0 {
@@ -143,6 +161,8 @@ pub fn open(list: &[u8], image: usize, stash: usize, work: usize) -> State
             image: 0,
             stash: 0,
             work: 0,
+            result: 0,
+            patch: 0,
         };
         return state_at(0, 0, refusal, none);
     }

@@ -4,6 +4,7 @@ fn main() {
         b"system.transfer.list",
         b"system.img",
         b"system.new.dat",
+        b"system.patch.dat",
         b"system.img.updated",
     );
 }

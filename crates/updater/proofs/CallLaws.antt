@@ -90,6 +90,8 @@ module _ (s : List ℕ) (p : Config) where
         image = refl;
         most-image = o .image .fits;
         work = refl;
+        result = refl;
+        patch = refl;
         stash = omega (arith, o .blocks);
         most-blocks = omega (arith, o .blocks, o .stash .fits);
         most-stashes = o .stashes;

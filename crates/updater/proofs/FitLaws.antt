@@ -29,7 +29,7 @@ use Rattle.updater.specs.Effect.{effect}
 use Rattle.updater.specs.Steps.{Config, configOf, passed, refusedWith, furtherInto, stateAfter, after}
 use Rattle.updater.specs.Run.{currentLine, currentCommand, refusedAt, quietStep, newBlocks, putByte, isStopped, needsByte, machine}
 use Rattle.updater.specs.Fits.{Fits}
-use Rattle.updater.proofs.EffectLaws.{effect-lengths}
+use Rattle.updater.proofs.EffectLaws.{lengths-refl, effect-lengths}
 use Rattle.updater.proofs.RunnableLaws.{runnable, keeps}
 
 -- ---- what a configuration needs to fit
@@ -45,6 +45,8 @@ module _ (s : List ℕ) (terms : Terms) (p : Config) (f : Fits s terms p) where
         image = rw (e .image) (f .image);
         most-image = f .most-image;
         work = rw (e .work) (f .work);
+        result = rw (e .result) (f .result);
+        patch = rw (e .patch) (f .patch);
         stash = rw (e .stash) (f .stash);
         most-blocks = f .most-blocks;
         most-stashes = f .most-stashes;
@@ -138,7 +140,7 @@ module _ (s : List ℕ) (terms : Terms) (p : Config) (f : Fits s terms p) where
       step-after s l terms p f some within e
       (effect-lengths l (held (p .state)) (commandOf l .hash) (p .areas) (commandOf l .command) (keeps s terms p f) (runnable s terms p f e)))
       (λ t.
-      step-refused s l terms p f some within (p .areas) number (record { image = refl; stash = refl; work = refl }) (eqb-false number none t))
+      step-refused s l terms p f some within (p .areas) number (lengths-refl (p .areas)) (eqb-false number none t))
 
   pub quiet-lengths : p .state .at < length s → SameLengths (p .areas) (quietStep s terms p .areas)
   quiet-lengths h = step-quiet h .same
@@ -151,6 +153,8 @@ module _ (s : List ℕ) (terms : Terms) (p : Config) (f : Fits s terms p) where
         image = length-set (p .areas .image) (addressOf (newBlocks (currentLine s p) (currentCommand s p)) (p .state .into)) x;
         stash = refl;
         work = refl;
+        result = refl;
+        patch = refl;
       })
       (f .whole)
       (f .blocks)

@@ -22,7 +22,7 @@ use Rattle.command.specs.declared.source.Source.the-variants.{Blocks, Stashes, 
 use Rattle.updater.specs.Areas.{Areas}
 use Rattle.updater.specs.Bytes.{gathered, written}
 use Rattle.updater.specs.Source.{stashStart, stashBytes, spread, supplied, together}
-use Rattle.updater.specs.Runnable.{Keeps, FoundSize, Spread, Spreads, InImage, InWork, Sourced, workBlocksOf}
+use Rattle.updater.specs.Runnable.{Keeps, FoundSize, Spread, Spreads, InImage, InWork, Sourced, blocksIn}
 use Rattle.updater.proofs.ByteLaws.{length-gathered, length-written, below-span, gathered-span}
 
 -- the blocks of a walk from a set's start are the set's
@@ -112,7 +112,7 @@ module _ (l : List ℕ) (xs : List Stash) (stash : List ℕ) (k : Keeps xs stash
 -- ---- a source keeps the work area's length
 
 module _ (l : List ℕ) (a : Areas) (set : RangeSet) (h : InImage l (a .image) set) where
-  pub length-supplied : set .blocks ≤ workBlocksOf a → length (supplied l (a .image) (set .at) (set .blocks) (a .work)) ≡ length (a .work)
+  pub length-supplied : set .blocks ≤ blocksIn (a .work) → length (supplied l (a .image) (set .at) (set .blocks) (a .work)) ≡ length (a .work)
   unfolding supplied
   length-supplied room =
       let g = length-gathered (blocksAt l (set .at)) (a .image) (h .below) in
@@ -128,7 +128,7 @@ module _ (l : List ℕ) (a : Areas) (set : RangeSet) (h : InImage l (a .image) s
       length-written (blocksAt l (places .at)) (gathered (blocksAt l (set .at)) (a .image)) (a .work) (k .below)
       (omega (arith, h .size, k .size))
 
-pub length-together : (l : List ℕ) (xs : List Stash) (a : Areas) (source : Source) → Keeps xs (a .stash) → Sourced l xs a source →
+pub length-together : (l : List ℕ) (xs : List Stash) (a : Areas) (source : Source) → Keeps xs (a .stash) → Sourced l xs (a .image) (a .work) source →
     length (together l (a .image) (a .stash) xs source (a .work)) ≡ length (a .work)
 unfolding together Sourced
 length-together l xs a (Blocks set) k h = length-supplied l a set (h .0) (h .1)

@@ -30,7 +30,8 @@ abbrev pub outcomeOf : List ℕ → State → Outcome
 outcomeOf s state = outcomeAt (length s) (state .at) (state .refusal)
 
 abbrev pub lengthsAt : List ℕ → Areas → Lengths
-lengthsAt s a = lengthsOf s (length (a .image)) (length (a .stash)) (length (a .work))
+lengthsAt s a =
+    lengthsOf s (length (a .image)) (length (a .stash)) (length (a .work)) (length (a .result)) (length (a .patch))
 
 -- a call is a run: no refusal is held, and the state is possible
 unfoldable pub isRun : List ℕ → Config → Bool

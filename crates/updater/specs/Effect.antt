@@ -1,21 +1,26 @@
--- Document 01, "The list text", "Putting a source together" and "The stash area": what each command does to the lent areas, given the
--- stashes that are held. A call and the model both go by `effect`.
+-- Document 01, "The list text", "Putting a source together" and "The stash area", and document 02, R-4: what each command does to the lent
+-- areas, given the stashes that are held. A call and the model both go by `effect`.
 -- Assumes nothing: these are definitions.
 use Prim.Native.Nat.{ℕ, _*_}
 use mathlib.Core.List.{List}
-use lib.ListN.{take}
+use mathlib.Core.Path.{_≡_}
+use mathlib.Core.Logic.{_⊎_}
+use lib.ListN.{take, drop}
 use Rattle.text.specs.Choice.{pick}
+use Rattle.text.specs.Hash.{hashAt}
 use Rattle.ranges.specs.Walk.{blocksAt}
 use Rattle.ranges.specs.declared.RangeSet.{RangeSet}
 use Rattle.state.specs.Limits.{blockBytes}
-use Rattle.state.specs.Refusals.{none, hashDiffers}
+use Rattle.state.specs.Refusals.{none, hashDiffers, patchMalformed}
 use Rattle.state.specs.Stashes.{Stash, findIn, blocksHeld}
 use Rattle.state.specs.declared.stashes.Found.{Found}
 use Rattle.state.specs.declared.stashes.Found.the-variants.{At, Nothing}
 use Rattle.command.specs.declared.Command.{Command}
 use Rattle.command.specs.declared.Command.the-variants as command
 use Rattle.command.specs.declared.source.Source.{Source}
-use Rattle.updater.specs.Areas.{Areas, withImage, withStash, withWork}
+use Rattle.command.specs.declared.sourced.Patching.{Patching}
+use Rattle.patch.specs.Patch.{isPatch, patchedBy}
+use Rattle.updater.specs.Areas.{Areas, withImage, withStash, withWork, withResult}
 use Rattle.copy.specs.Over.{over}
 use Rattle.updater.specs.Bytes.{zeroed, written}
 use Rattle.updater.specs.Source.{supplied, together, closedUp, hashesTo}
@@ -28,10 +33,18 @@ pub record Effect : Type 0 where
 abbrev pub effectOf : Areas → ℕ → Effect
 effectOf areas refusal = record { areas = areas; refusal = refusal }
 
--- the work area is filled. If its first n blocks hash to H, the command goes on from there; a hash that differs stops it, with image and
--- stash area as the line found them
-abbrev pub verified : ℕ → List ℕ → (Areas → Areas) → Areas → Effect
-verified n hash go a = pick (hashesTo (a .work) n hash) (effectOf (go a) none) (effectOf a hashDiffers)
+-- a command that is done, and what it then leaves
+abbrev pub done : (Areas → Areas) → Areas → Effect
+done go a = effectOf (go a) none
+
+-- the numbers that a command can stop with: a hash differs, or a patch is malformed
+abbrev pub InRun : ℕ → Type 0
+InRun number = (number ≡ hashDiffers) ⊎ (number ≡ patchMalformed)
+
+-- the work area is filled. If its first n blocks hash to H, the command goes on from there; a hash that differs stops it, with image, stash
+-- and result area as the line found them
+abbrev pub verified : ℕ → List ℕ → (Areas → Effect) → Areas → Effect
+verified n hash go a = pick (hashesTo (a .work) n hash) (go a) (effectOf a hashDiffers)
 
 -- `zero`, `erase`: zeros go over R
 unfoldable pub zeroEffect : List ℕ → RangeSet → Areas → Effect
@@ -44,7 +57,39 @@ targetWritten l target n a = withImage a (written (blocksAt l (target .at)) (tak
 -- `move`: the source is put together in the work area and, if its hash is H, written over R
 unfoldable pub moveEffect : List ℕ → List Stash → List ℕ → RangeSet → ℕ → Source → Areas → Effect
 moveEffect l held hash target n source a =
-    verified n hash (targetWritten l target n) (withWork a (together l (a .image) (a .stash) held source (a .work)))
+    verified n hash (done (targetWritten l target n)) (withWork a (together l (a .image) (a .stash) held source (a .work)))
+
+-- B bytes at O of the patch data
+abbrev pub patchOf : Patching → Areas → List ℕ
+patchOf patching a = take (patching .length) (drop (patching .start) (a .patch))
+
+-- what the patch makes of the source, n blocks of the work area, goes to the front of the result area
+abbrev pub resultMade : Patching → ℕ → Areas → Areas
+resultMade patching n a = withResult a (over (a .result) 0 (patchedBy (patchOf patching a) (take (blockBytes * n) (a .work))))
+
+-- as many blocks of the result area as R has are written over R
+abbrev pub resultWritten : List ℕ → RangeSet → Areas → Areas
+resultWritten l target a =
+    withImage a (written (blocksAt l (target .at)) (take (blockBytes * target .blocks) (a .result)) (a .image))
+
+-- the result goes to the image only when its hash is T
+unfoldable pub resultEffect : List ℕ → Patching → RangeSet → Areas → Effect
+resultEffect l patching target a =
+    pick (hashesTo (a .result) (target .blocks) (hashAt l (patching .digest) .bytes))
+    (done (resultWritten l target) a)
+    (effectOf a hashDiffers)
+
+-- the patch turns the source into the target's bytes, which go to the result area first; a malformed one leaves it and the image unchanged
+unfoldable pub patchEffect : List ℕ → Patching → RangeSet → ℕ → Areas → Effect
+patchEffect l patching target n a =
+    pick (isPatch (patchOf patching a) (blockBytes * target .blocks))
+    (resultEffect l patching target (resultMade patching n a))
+    (effectOf a patchMalformed)
+
+-- `bsdiff`: the source is put together in the work area and, if its hash is H, patched
+unfoldable pub bsdiffEffect : List ℕ → List Stash → List ℕ → Patching → RangeSet → ℕ → Source → Areas → Effect
+bsdiffEffect l held hash patching target n source a =
+    verified n hash (patchEffect l patching target n) (withWork a (together l (a .image) (a .stash) held source (a .work)))
 
 -- n blocks of the work area go after the last stash
 abbrev pub stashWritten : List Stash → ℕ → Areas → Areas
@@ -53,7 +98,8 @@ stashWritten held n a = withStash a (over (a .stash) (blockBytes * blocksHeld he
 -- `stash`: S is read through the work area and, if its hash is H, put after the last stash
 unfoldable pub stashEffect : List ℕ → List Stash → List ℕ → RangeSet → Areas → Effect
 stashEffect l held hash set a =
-    verified (set .blocks) hash (stashWritten held (set .blocks)) (withWork a (supplied l (a .image) (set .at) (set .blocks) (a .work)))
+    verified (set .blocks) hash (done (stashWritten held (set .blocks)))
+    (withWork a (supplied l (a .image) (set .at) (set .blocks) (a .work)))
 
 abbrev pub closedFound : List Stash → List ℕ → Found → List ℕ
 closedFound held stash (At j) = closedUp held j stash
@@ -70,6 +116,7 @@ effect l held hash (command.Zero set) a = zeroEffect l set a
 effect l held hash (command.Erase set) a = zeroEffect l set a
 effect l held hash (command.New set) a = effectOf a none
 effect l held hash (command.Move target n source) a = moveEffect l held hash target n source a
+effect l held hash (command.Bsdiff patching target n source) a = bsdiffEffect l held hash patching target n source a
 effect l held hash (command.Stash set) a = stashEffect l held hash set a
 effect l held hash command.Free a = freeEffect held hash a
 effect l held hash command.Unsupported a = effectOf a none

@@ -9,15 +9,17 @@ use Rattle.state.specs.Limits.{blockBytes, mostImageBlocks, mostAreaBlocks, mos
 use Rattle.state.specs.Stashes.{Whole, tableOf, held, blocksHeld}
 use Rattle.rules.specs.declared.Terms.{Terms}
 use Rattle.updater.specs.Steps.{Config}
-use Rattle.updater.specs.Runnable.{imageBlocks, workBlocksOf}
+use Rattle.updater.specs.Runnable.{blocksIn}
 
 pub record Fits (s : List ℕ) (terms : Terms) (p : Config) : Type 0 where
   pub list : length s ≤ mostListBytes
   pub at : p .state .at ≤ length s
   pub line : p .state .line ≤ p .state .at + 1
-  pub image : terms .image ≡ imageBlocks (p .areas)
+  pub image : terms .image ≡ blocksIn (p .areas .image)
   pub most-image : terms .image ≤ mostImageBlocks
-  pub work : terms .work ≡ workBlocksOf (p .areas)
+  pub work : terms .work ≡ blocksIn (p .areas .work)
+  pub result : terms .result ≡ blocksIn (p .areas .result)
+  pub patch : terms .patch ≡ length (p .areas .patch)
   pub stash : blockBytes * terms .blocks ≤ length (p .areas .stash)
   pub most-blocks : terms .blocks ≤ mostAreaBlocks
   pub most-stashes : terms .stashes ≤ mostStashes

@@ -16,13 +16,12 @@ use Rattle.command.specs.declared.Command.{Command}
 use Rattle.command.specs.declared.Command.the-variants as command
 use Rattle.command.specs.declared.source.Source.{Source}
 use Rattle.command.specs.declared.source.Source.the-variants.{Blocks, Stashes, Both}
+use Rattle.command.specs.declared.sourced.Patching.{Patching}
 use Rattle.updater.specs.Areas.{Areas}
 
-abbrev pub imageBlocks : Areas → ℕ
-imageBlocks a = length (a .image) / blockBytes
-
-abbrev pub workBlocksOf : Areas → ℕ
-workBlocksOf a = length (a .work) / blockBytes
+-- the whole blocks of an area
+abbrev pub blocksIn : List ℕ → ℕ
+blocksIn area = length area / blockBytes
 
 -- what is held lies within a stash area
 pub record Keeps (stashes : List Stash) (stash : List ℕ) : Type 0 where
@@ -48,30 +47,43 @@ Spreads l stashes n (p ∷ ps) = Spread l stashes n p × Spreads l stashes n ps
 
 -- a range set's blocks lie within the image, and it has as many as it says
 pub record InImage (l image : List ℕ) (set : RangeSet) : Type 0 where
-  pub below : AllBelow (length image / blockBytes) (blocksAt l (set .at))
+  pub below : AllBelow (blocksIn image) (blocksAt l (set .at))
   pub size : length (blocksAt l (set .at)) ≡ set .blocks
 
 -- L's places lie within the work area, as many as S has blocks
 pub record InWork (l work : List ℕ) (set places : RangeSet) : Type 0 where
-  pub below : AllBelow (length work / blockBytes) (blocksAt l (places .at))
+  pub below : AllBelow (blocksIn work) (blocksAt l (places .at))
   pub size : length (blocksAt l (places .at)) ≡ set .blocks
 
-unfoldable pub Sourced : List ℕ → List Stash → Areas → Source → Type 0
-Sourced l stashes a (Blocks set) = InImage l (a .image) set × (set .blocks ≤ workBlocksOf a)
-Sourced l stashes a (Stashes first) = Spreads l stashes (workBlocksOf a) (usesAt l first)
-Sourced l stashes a (Both set places first) =
-    InImage l (a .image) set × InWork l (a .work) set places × Spreads l stashes (workBlocksOf a) (usesAt l first)
+-- a source can be put together from an image and a stash area in a work area
+unfoldable pub Sourced : List ℕ → List Stash → List ℕ → List ℕ → Source → Type 0
+Sourced l stashes image work (Blocks set) = InImage l image set × (set .blocks ≤ blocksIn work)
+Sourced l stashes image work (Stashes first) = Spreads l stashes (blocksIn work) (usesAt l first)
+Sourced l stashes image work (Both set places first) =
+    InImage l image set × InWork l work set places × Spreads l stashes (blocksIn work) (usesAt l first)
 
-pub record MoveRuns (l : List ℕ) (stashes : List Stash) (a : Areas) (target : RangeSet) (n : ℕ) (source : Source) : Type 0 where
-  pub goal : InImage l (a .image) target
+pub record MoveRuns (l : List ℕ) (stashes : List Stash) (image work : List ℕ) (target : RangeSet) (n : ℕ) (source : Source) : Type 0 where
+  pub goal : InImage l image target
   pub size : target .blocks ≡ n
-  pub room : n ≤ workBlocksOf a
-  pub from : Sourced l stashes a source
+  pub room : n ≤ blocksIn work
+  pub from : Sourced l stashes image work source
 
-pub record StashRuns (l : List ℕ) (stashes : List Stash) (a : Areas) (set : RangeSet) : Type 0 where
-  pub from : InImage l (a .image) set
-  pub room : set .blocks ≤ workBlocksOf a
-  pub fits : blockBytes * (blocksHeld stashes + set .blocks) ≤ length (a .stash)
+-- a patch lies within the patch data, its source within the work area, and what it makes within the result area
+pub record PatchRuns (l image work result patch : List ℕ) (patching : Patching) (target : RangeSet) (n : ℕ) : Type 0 where
+  pub goal : InImage l image target
+  pub room : n ≤ blocksIn work
+  pub holds : target .blocks ≤ blocksIn result
+  pub within : patching .start + patching .length ≤ length patch
+
+pub record BsdiffRuns (l : List ℕ) (stashes : List Stash) (a : Areas) (patching : Patching) (target : RangeSet) (n : ℕ) (source : Source) :
+    Type 0 where
+  pub patched : PatchRuns l (a .image) (a .work) (a .result) (a .patch) patching target n
+  pub from : Sourced l stashes (a .image) (a .work) source
+
+pub record StashRuns (l : List ℕ) (stashes : List Stash) (image stash work : List ℕ) (set : RangeSet) : Type 0 where
+  pub from : InImage l image set
+  pub room : set .blocks ≤ blocksIn work
+  pub fits : blockBytes * (blocksHeld stashes + set .blocks) ≤ length stash
   pub most : blocksHeld stashes + set .blocks ≤ mostAreaBlocks
 
 -- a command can run
@@ -79,8 +91,9 @@ unfoldable pub Runnable : List ℕ → List Stash → Areas → Command → Type
 Runnable l stashes a (command.Zero set) = InImage l (a .image) set
 Runnable l stashes a (command.Erase set) = InImage l (a .image) set
 Runnable l stashes a (command.New set) = InImage l (a .image) set
-Runnable l stashes a (command.Move target n source) = MoveRuns l stashes a target n source
-Runnable l stashes a (command.Stash set) = StashRuns l stashes a set
+Runnable l stashes a (command.Move target n source) = MoveRuns l stashes (a .image) (a .work) target n source
+Runnable l stashes a (command.Bsdiff patching target n source) = BsdiffRuns l stashes a patching target n source
+Runnable l stashes a (command.Stash set) = StashRuns l stashes (a .image) (a .stash) (a .work) set
 Runnable l stashes a command.Free = Unit {0}
 Runnable l stashes a command.Unsupported = Unit {0}
 Runnable l stashes a (command.Bad q) = Unit {0}

@@ -1,15 +1,15 @@
 // What each command does to the lent areas. An answer is the number that the command stops with, 0 where it is done.
 ghost use mathlib.Core.Path.{_≡_};
-ghost use Prim.Native.Nat.{_*_, _≤_};
-ghost use lib.ListN.{length};
-ghost use Rattle.state.specs.Limits.{blockBytes};
+ghost use mathlib.Core.List.{List};
+ghost use Prim.Native.Nat.{ℕ};
 ghost use Rattle.state.specs.Stashes.{tableAt, heldIn, findIn};
 ghost use Rattle.updater.specs.Areas.{areasOf};
-ghost use Rattle.updater.specs.Source.{hashesTo};
 ghost use Rattle.updater.specs.Effect.{effectOf, moveEffect, stashEffect, closedFound, effect};
 ghost use Rattle.updater.specs.Runnable.{Keeps, MoveRuns, StashRuns, Runnable};
 use crate::areas::copy_over;
 use crate::areas::move_down;
+use crate::bsdiff::run_bsdiff;
+use crate::digest::has_hash;
 use crate::sets::write_set;
 use crate::sets::zero_set;
 use crate::source::put_together;
@@ -18,7 +18,6 @@ use command::Command;
 use command::Line;
 use command::source::Source;
 use ranges::RangeSet;
-use sha1::digest;
 use state::limits::BLOCK_BYTES;
 use state::limits::HASH_BYTES;
 use state::limits::MOST_STASHES;
@@ -27,18 +26,7 @@ use state::refusals::HASH_DIFFERS;
 use state::stashes::Found;
 use state::stashes::blocks_before;
 use state::stashes::find_stash;
-use state::stashes::same_hash;
 use state::stashes::stash_blocks;
-
-// The first n blocks of the work area have the given hash.
-fn has_hash(work: &[u8], n: usize, hash: [u8; HASH_BYTES]) -> bool
-    requires { ⌜ blockBytes * n ≤ length (now work) ⌝ }
-    ensures { λ r. ⌜ r ≡ hashesTo (now (work .entry)) n hash ⌝ }
-{
-    let size = BLOCK_BYTES * n;
-    let found = digest(&work[..size]);
-    same_hash(&found, &hash)
-}
 
 fn run_move(
     image: &mut [u8],
@@ -54,10 +42,10 @@ fn run_move(
     hash: [u8; HASH_BYTES],
 ) -> usize
     requires { ⌜ Keeps (heldIn (tableAt (now hashes) (now sizes) count)) (now stash) ⌝ }
-    requires { ⌜ MoveRuns (now l) (heldIn (tableAt (now hashes) (now sizes) count)) (areasOf (now image) (now stash) (now work)) target n source ⌝ }
-    ensures { λ r. ⌜ effectOf (areasOf (now (image .exit)) (now (stash .entry)) (now (work .exit))) r
+    requires { ⌜ MoveRuns (now l) (heldIn (tableAt (now hashes) (now sizes) count)) (now image) (now work) target n source ⌝ }
+    ensures { λ r. ⌜ ((result patch : List ℕ) → effectOf (areasOf (now (image .exit)) (now (stash .entry)) (now (work .exit)) result patch) r
         ≡ moveEffect (now (l .entry)) (heldIn (tableAt (now (hashes .entry)) (now (sizes .entry)) count)) hash target n source
-        (areasOf (now (image .entry)) (now (stash .entry)) (now (work .entry))) ⌝ }
+        (areasOf (now (image .entry)) (now (stash .entry)) (now (work .entry)) result patch)) ⌝ }
 {
     put_together(&*image, stash, work, l, hashes, sizes, count, source);
     if !has_hash(&*work, n, hash) {
@@ -79,10 +67,10 @@ fn run_stash(
     set: RangeSet,
     hash: [u8; HASH_BYTES],
 ) -> usize
-    requires { ⌜ StashRuns (now l) (heldIn (tableAt (now hashes) (now sizes) count)) (areasOf (now image) (now stash) (now work)) set ⌝ }
-    ensures { λ r. ⌜ effectOf (areasOf (now (image .entry)) (now (stash .exit)) (now (work .exit))) r
+    requires { ⌜ StashRuns (now l) (heldIn (tableAt (now hashes) (now sizes) count)) (now image) (now stash) (now work) set ⌝ }
+    ensures { λ r. ⌜ ((result patch : List ℕ) → effectOf (areasOf (now (image .entry)) (now (stash .exit)) (now (work .exit)) result patch) r
         ≡ stashEffect (now (l .entry)) (heldIn (tableAt (now (hashes .entry)) (now (sizes .entry)) count)) hash set
-        (areasOf (now (image .entry)) (now (stash .entry)) (now (work .entry))) ⌝ }
+        (areasOf (now (image .entry)) (now (stash .entry)) (now (work .entry)) result patch)) ⌝ }
 {
     let n = set.blocks;
     supply(image, &*stash, work, l, set);
@@ -123,6 +111,8 @@ pub(crate) fn run_command(
     image: &mut [u8],
     stash: &mut [u8],
     work: &mut [u8],
+    result: &mut [u8],
+    patch: &[u8],
     l: &[u8],
     line: Line,
     hashes: &[u8; TABLE_BYTES],
@@ -130,10 +120,10 @@ pub(crate) fn run_command(
     count: usize,
 ) -> usize
     requires { ⌜ Keeps (heldIn (tableAt (now hashes) (now sizes) count)) (now stash) ⌝ }
-    requires { ⌜ Runnable (now l) (heldIn (tableAt (now hashes) (now sizes) count)) (areasOf (now image) (now stash) (now work)) (line .command) ⌝ }
-    ensures { λ r. ⌜ effectOf (areasOf (now (image .exit)) (now (stash .exit)) (now (work .exit))) r
+    requires { ⌜ Runnable (now l) (heldIn (tableAt (now hashes) (now sizes) count)) (areasOf (now image) (now stash) (now work) (now result) (now patch)) (line .command) ⌝ }
+    ensures { λ r. ⌜ effectOf (areasOf (now (image .exit)) (now (stash .exit)) (now (work .exit)) (now (result .exit)) (now (patch .entry))) r
         ≡ effect (now (l .entry)) (heldIn (tableAt (now (hashes .entry)) (now (sizes .entry)) count)) (line .hash) (line .command)
-        (areasOf (now (image .entry)) (now (stash .entry)) (now (work .entry))) ⌝ }
+        (areasOf (now (image .entry)) (now (stash .entry)) (now (work .entry)) (now (result .entry)) (now (patch .entry))) ⌝ }
 {
     let command = line.command;
     let hash = line.hash;
@@ -161,6 +151,30 @@ pub(crate) fn run_command(
                 hashes,
                 sizes,
                 count,
+                target,
+                n,
+                source,
+                hash,
+            )
+        }
+        Command::Bsdiff {
+            patching,
+            target,
+            length,
+            source,
+        } => {
+            let n = length as usize;
+            run_bsdiff(
+                image,
+                &*stash,
+                work,
+                result,
+                patch,
+                l,
+                hashes,
+                sizes,
+                count,
+                patching,
                 target,
                 n,
                 source,

@@ -12,7 +12,9 @@ use state::State;
 use state::refusals::STATE_IMPOSSIBLE;
 
 mod areas;
+mod bsdiff;
 mod commands;
+mod digest;
 mod new_data;
 mod run;
 mod sets;
@@ -51,10 +53,12 @@ pub fn call(
     image: &mut [u8],
     stash: &mut [u8],
     work: &mut [u8],
+    result: &mut [u8],
+    patch: &[u8],
     piece: &[u8],
     state: State,
 ) -> Called
-    ensures { λ r. ⌜ resultOf (areasOf (now (image .exit)) (now (stash .exit)) (now (work .exit))) r ≡ callOf (now (list .entry)) (now (piece .entry)) (configOf (areasOf (now (image .entry)) (now (stash .entry)) (now (work .entry))) state) ⌝ }
+    ensures { λ r. ⌜ resultOf (areasOf (now (image .exit)) (now (stash .exit)) (now (work .exit)) (now (result .exit)) (now (patch .entry))) r ≡ callOf (now (list .entry)) (now (piece .entry)) (configOf (areasOf (now (image .entry)) (now (stash .entry)) (now (work .entry)) (now (result .entry)) (now (patch .entry))) state) ⌝ }
 {
     let held = state.refusal;
     if held.number != 0 {
@@ -69,6 +73,8 @@ pub fn call(
         image: image.len(),
         stash: stash.len(),
         work: work.len(),
+        result: result.len(),
+        patch: patch.len(),
     };
     if !is_possible(list, lengths, state) {
         return Called {
@@ -81,7 +87,7 @@ pub fn call(
         };
     }
     let terms = terms_for(list, lengths);
-    let ran = run_lines(list, image, stash, work, piece, terms, state);
+    let ran = run_lines(list, image, stash, work, result, patch, piece, terms, state);
     let last = ran.state;
     let refusal = last.refusal;
     let outcome = outcome_at(list.len(), last.at, refusal);

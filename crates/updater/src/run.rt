@@ -28,13 +28,15 @@ pub(crate) fn run_lines(
     image: &mut [u8],
     stash: &mut [u8],
     work: &mut [u8],
+    result: &mut [u8],
+    patch: &[u8],
     piece: &[u8],
     terms: Terms,
     state: State,
 ) -> Ran
-    requires { ⌜ Fits (now list) terms (configOf (areasOf (now image) (now stash) (now work)) state) ⌝ }
+    requires { ⌜ Fits (now list) terms (configOf (areasOf (now image) (now stash) (now work) (now result) (now patch)) state) ⌝ }
     requires { ⌜ state .refusal .number ≡ 0 ⌝ }
-    ensures { λ r. ⌜ reached (configOf (areasOf (now (image .exit)) (now (stash .exit)) (now (work .exit))) (r .state)) (r .taken) ≡ runOf (now (list .entry)) terms (now (piece .entry)) (configOf (areasOf (now (image .entry)) (now (stash .entry)) (now (work .entry))) state) ⌝ }
+    ensures { λ r. ⌜ reached (configOf (areasOf (now (image .exit)) (now (stash .exit)) (now (work .exit)) (now (result .exit)) (now (patch .entry))) (r .state)) (r .taken) ≡ runOf (now (list .entry)) terms (now (piece .entry)) (configOf (areasOf (now (image .entry)) (now (stash .entry)) (now (work .entry)) (now (result .entry)) (now (patch .entry))) state) ⌝ }
 {
     let mut hashes = state.hashes;
     let mut sizes = state.sizes;
@@ -70,7 +72,18 @@ pub(crate) fn run_lines(
                 line = line + 1;
             }
             NewTarget::None => {
-                let stopped = run_command(image, stash, work, l, read, &hashes, &sizes, count);
+                let stopped = run_command(
+                    image,
+                    stash,
+                    work,
+                    result,
+                    patch,
+                    l,
+                    read,
+                    &hashes,
+                    &sizes,
+                    count,
+                );
                 if stopped != 0 {
                     refusal = Refusal {
                         number: stopped,

@@ -6,7 +6,6 @@ ghost use Rattle.ranges.specs.Walk.{blocksAt};
 ghost use Rattle.state.specs.Limits.{blockBytes};
 ghost use Rattle.state.specs.Stashes.{tableAt, heldIn};
 ghost use Rattle.command.specs.Parts.{usesAt};
-ghost use Rattle.updater.specs.Areas.{areasOf};
 ghost use Rattle.updater.specs.Bytes.{written};
 ghost use Rattle.updater.specs.Source.{stashBytes, spread, supplied, together};
 ghost use Rattle.updater.specs.Runnable.{Keeps, useOf, Spread, Spreads, InImage, Sourced};
@@ -111,7 +110,7 @@ pub(crate) fn supply<'a>(image: &'a [u8], stash: &'a [u8], work: &mut [u8], l: &
     );
 }
 
-// The source of a `move`.
+// The source of a `move` or of a `bsdiff`.
 pub(crate) fn put_together<'a>(
     image: &'a [u8],
     stash: &'a [u8],
@@ -123,7 +122,7 @@ pub(crate) fn put_together<'a>(
     source: Source,
 )
     requires { ⌜ Keeps (heldIn (tableAt (now hashes) (now sizes) count)) (now stash) ⌝ }
-    requires { ⌜ Sourced (now l) (heldIn (tableAt (now hashes) (now sizes) count)) (areasOf (now image) (now stash) (now work)) source ⌝ }
+    requires { ⌜ Sourced (now l) (heldIn (tableAt (now hashes) (now sizes) count)) (now image) (now work) source ⌝ }
     ensures { λ _. ⌜ now (work .exit) ≡ together (now (l .entry)) (now (image .entry)) (now (stash .entry)) (heldIn (tableAt (now (hashes .entry)) (now (sizes .entry)) count)) source (now (work .entry)) ⌝ }
 {
     match source {

@@ -20,11 +20,14 @@ same-length-2 c = search needs
 same-length-3 : tie.Need-same-length-3
 same-length-3 c = search needs
 
+same-length-4 : tie.Need-same-length-4
+same-length-4 c = search needs
+
 returns : tie.Need-returns
 returns c =
-    ap (answeredOf _) (c .to-answer .ensures) ∙ ap answered (c .before .before .before .before .before .before .before .call .ensures)
+    ap (answeredOf _) (c .to-answer .ensures) ∙ ap answered (c .before .before .before .before .before .before .before .before .before .call .ensures)
 
 pub muongrabi-call-spec : {M : Type 1} → statement M
 muongrabi-call-spec =
     tie.close
-    (tie.spec call-requires to-answer-requires same-length same-length-2 same-length-3 returns)
+    (tie.spec call-requires to-answer-requires same-length same-length-2 same-length-3 same-length-4 returns)

@@ -20,11 +20,14 @@ same-length-2 c = search needs
 same-length-3 : tie.Need-same-length-3
 same-length-3 c = search needs
 
+same-length-4 : tie.Need-same-length-4
+same-length-4 c = search needs
+
 returns : tie.Need-returns
 returns c =
-    ap (answeredOf _) (c .to-answer .ensures) ∙ ap answered (c .before .before .before .before .before .before .before .run-pieces .ensures .0)
+    ap (answeredOf _) (c .to-answer .ensures) ∙ ap answered (c .before .before .before .before .before .before .before .before .before .run-pieces .ensures .0)
 
 pub muongrabi-run-spec : {M : Type 1} → statement M
 muongrabi-run-spec =
     tie.close
-    (tie.spec run-pieces-requires to-answer-requires same-length same-length-2 same-length-3 returns)
+    (tie.spec run-pieces-requires to-answer-requires same-length same-length-2 same-length-3 same-length-4 returns)

@@ -13,22 +13,23 @@ use Rattle.package.proofs.run.Statement.{statement}
 use Rattle.package.proofs.run.Tie as tie
 
 abbrev Inv-loop : tie.InvT-loop
-Inv-loop list image₀ piece₀ first «data» data-path stash₀ work₀ s₀ n₀ taken₀ turns₀ image piece stash work s n taken turns =
+Inv-loop list image₀ patch piece₀ first «data» data-path stash₀ work₀ result₀ s₀ n₀ taken₀ turns₀ image piece stash work result s n taken turns =
     (length image ≡ length image₀)
     × (length stash ≡ areaBytes)
     × (length work ≡ areaBytes)
+    × (length result ≡ areaBytes)
     × (length piece ≡ length piece₀)
     × Counts n piece
     × (taken + turns * pieceBytes ≤ 2 ^ 52)
 
 abbrev μ-loop : tie.MeasureT-loop
-μ-loop list image₀ piece₀ first «data» data-path stash₀ work₀ s₀ n₀ taken₀ turns₀ image piece stash work s n taken turns = turns
+μ-loop list image₀ patch piece₀ first «data» data-path stash₀ work₀ result₀ s₀ n₀ taken₀ turns₀ image piece stash work result s n taken turns = turns
 
 -- what is taken in a turn
-within : (c : tie.After-s Inv-loop μ-loop) → c .before .before .before .before .before .call .result .taken ≤ pieceBytes
+within : (c : tie.After-s Inv-loop μ-loop) → c .before .before .before .before .before .before .call .result .taken ≤ pieceBytes
 within c =
-    let t = call-most _ _ _ (c .before .before .before .before .before .call .ensures) in
-    let v = c .before .before .before .before .before .before .before .before .before .before .before .loop .inv in
+    let t = call-most _ _ _ (c .before .before .before .before .before .before .call .ensures) in
+    let v = c .before .before .before .before .before .before .before .before .before .before .before .before .before .loop .inv in
     omega arith
 
 -- the next piece lies in its buffer
@@ -49,6 +50,9 @@ slice-reshare-prefix-call c = search needs
 
 slice-aggregate-call-3 : tie.Need-slice-aggregate-call-3 Inv-loop μ-loop
 slice-aggregate-call-3 c = search needs
+
+slice-aggregate-call-4 : tie.Need-slice-aggregate-call-4 Inv-loop μ-loop
+slice-aggregate-call-4 c = search needs
 
 call-requires : tie.Need-call-requires Inv-loop μ-loop
 call-requires c κs = search needs
@@ -97,11 +101,11 @@ loop-again c =
     let n = c .before in
     let f = n .before .before .before .before in
     let s = f .before .before .before .before in
-    let k = s .before .before .before .before .before in
-    let l = k .before .before .before .before .before in
+    let k = s .before .before .before .before .before .before in
+    let l = k .before .before .before .before .before .before in
     let v = l .before .loop .inv in
     let w = within s in
-    (omega (arith, k .call .kept .1 .0), omega arith, omega arith, omega (arith, f .fill .kept .1 .1 .0), counted n, omega (arith, l .loop-test .taken))
+    (omega (arith, k .call .kept .1 .0), omega arith, omega arith, omega arith, omega (arith, f .fill .kept .1 .1 .0), counted n, omega (arith, l .loop-test .taken))
 
 same-length-5 : tie.Need-same-length-5 Inv-loop μ-loop
 same-length-5 c = search needs
@@ -121,8 +125,9 @@ run-spec =
     loop-holds
     slice-aggregate-call
     slice-aggregate-call-2
-    slice-reshare-prefix-call
     slice-aggregate-call-3
+    slice-reshare-prefix-call
+    slice-aggregate-call-4
     call-requires
     add-taken
     calls-on-requires

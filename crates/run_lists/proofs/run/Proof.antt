@@ -7,10 +7,12 @@ use Rattle.run_lists.proofs.run.Statement.{statement}
 use Rattle.run_lists.proofs.run.Tie as tie
 
 abbrev Inv-loop : tie.InvT-loop
-Inv-loop text list₀ image₀ stash₀ work₀ «data» l₀ s₀ from₀ i₀ list image stash work l s from i = (from ≤ i) × (i ≤ length text)
+Inv-loop text list₀ image₀ stash₀ work₀ result₀ patch₀ «data» l₀ s₀ from₀ i₀ list image stash work result patch l s from i =
+    (from ≤ i) × (i ≤ length text)
 
 abbrev μ-loop : tie.MeasureT-loop
-μ-loop text list₀ image₀ stash₀ work₀ «data» l₀ s₀ from₀ i₀ list image stash work l s from i = length text - i
+μ-loop text list₀ image₀ stash₀ work₀ result₀ patch₀ «data» l₀ s₀ from₀ i₀ list image stash work result patch l s from i =
+    length text - i
 
 pub run-spec : {M : Type 1} → statement M
 run-spec =

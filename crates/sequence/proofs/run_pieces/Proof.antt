@@ -13,34 +13,35 @@ use Rattle.sequence.proofs.run_pieces.Tie as tie
 
 -- The areas keep their lengths, and the calls that are left come to what all of them come to.
 abbrev Inv-loop : tie.InvT-loop
-Inv-loop list image₀ stash₀ work₀ bytes cuts s₀ total₀ from₀ k₀ image stash work s total from k =
+Inv-loop list image₀ stash₀ work₀ result₀ patch bytes cuts s₀ total₀ from₀ k₀ image stash work result s total from k =
     (length image ≡ length image₀)
     × (length stash ≡ length stash₀)
     × (length work ≡ length work₀)
-    × Cutting list bytes cuts (configOf (areasOf image₀ stash₀ work₀) s₀) (configOf (areasOf image stash work) s) from k total
+    × (length result ≡ length result₀)
+    × Cutting list bytes cuts (configOf (areasOf image₀ stash₀ work₀ result₀ patch) s₀) (configOf (areasOf image stash work result patch) s) from k total
 
 abbrev μ-loop : tie.MeasureT-loop
-μ-loop list image₀ stash₀ work₀ bytes cuts s₀ total₀ from₀ k₀ image stash work s total from k = length cuts - k
+μ-loop list image₀ stash₀ work₀ result₀ patch bytes cuts s₀ total₀ from₀ k₀ image stash work result s total from k = length cuts - k
 
 -- ---- places of the code
 
 abbrev start : tie.Else1 Inv-loop μ-loop → tie.Start Inv-loop μ-loop
-start c = c .before .before .before .before .before .before .before .before .before .before
+start c = c .before .before .before .before .before .before .before .before .before .before .before .before
 
 abbrev cut : tie.After-call Inv-loop μ-loop → tie.After-piece-end Inv-loop μ-loop
-cut c = c .before .before .before .before .before
+cut c = c .before .before .before .before .before .before
 
 abbrev turn : tie.After-piece-end Inv-loop μ-loop → tie.In-loop Inv-loop μ-loop
 turn c = c .before .before
 
 abbrev called : tie.After-struct-known2 Inv-loop μ-loop → tie.After-call Inv-loop μ-loop
-called c = c .before .before .before .before .before .before .before .before
+called c = c .before .before .before .before .before .before .before .before .before .before
 
 abbrev left : tie.After-call2 Inv-loop μ-loop → tie.After-loop Inv-loop μ-loop
-left c = c .before .before .before .before .before
+left c = c .before .before .before .before .before .before
 
 abbrev last : tie.After-struct-known3 Inv-loop μ-loop → tie.After-call2 Inv-loop μ-loop
-last c = c .before .before .before .before .before .before .before .before
+last c = c .before .before .before .before .before .before .before .before .before .before
 
 -- ---- the opening
 
@@ -53,10 +54,10 @@ returns c = with-claim _ _ _ _ (run-refused _ _ _ _ (c .before .before .before .
 -- ---- a turn
 
 loop-holds : tie.Need-loop-holds Inv-loop μ-loop
-loop-holds c = (refl, refl, refl, cutting-start _ _ _ _)
+loop-holds c = (refl, refl, refl, refl, cutting-start _ _ _ _)
 
 mul-piece-end : tie.Need-mul-piece-end Inv-loop μ-loop
-mul-piece-end c = omega arith
+mul-piece-end c = omega (arith, start (c .before .before) .good .1 .1 .1 .1 .1 .1 .1 .0)
 
 shared-slice-read-piece-end : tie.Need-shared-slice-read-piece-end Inv-loop μ-loop
 shared-slice-read-piece-end c = omega arith
@@ -82,10 +83,10 @@ add-total c =
     let e = cut d in
     let l = turn e .before in
     omega
-    (arith, total-within _ _ _ (l .loop .inv .3) (e .piece-end .result - l .loop .from) (d .call .ensures), start (l .before) .good .1 .1 .1 .1 .0 .0)
+    (arith, total-within _ _ _ (l .loop .inv .4) (e .piece-end .result - l .loop .from) (d .call .ensures), start (l .before) .good .1 .1 .1 .1 .1 .1 .0 .0)
 
 add-k : tie.Need-add-k Inv-loop μ-loop
-add-k c = omega (arith, start (turn (cut (called c)) .before .before) .good .1 .1 .1 .1 .1 .0 .0)
+add-k c = omega (arith, start (turn (cut (called c)) .before .before) .good .1 .1 .1 .1 .1 .1 .1 .0 .0)
 
 loop-less : tie.Need-loop-less Inv-loop μ-loop
 loop-less c = omega arith
@@ -100,7 +101,8 @@ loop-again c =
       d .call .kept .1 .0 ∙ i .0,
       d .call .kept .1 .1 .0 ∙ i .1,
       d .call .kept .1 .1 .1 .0 ∙ i .2,
-      cutting-more _ _ _ (i .3) (t .loop-test .taken) (e .piece-end .ensures) r,
+      d .call .kept .1 .1 .1 .1 .0 ∙ i .3,
+      cutting-more _ _ _ (i .4) (t .loop-test .taken) (e .piece-end .ensures) r,
     )
 
 -- ---- the last call
@@ -117,13 +119,13 @@ part-call-end-2 c = search needs
 call-requires-2 : tie.Need-call-requires-2 Inv-loop μ-loop
 call-requires-2 c κs = tt
 
-add-t19 : tie.Need-add-t19 Inv-loop μ-loop
-add-t19 c =
+add-t21 : tie.Need-add-t21 Inv-loop μ-loop
+add-t21 c =
     let d = last c in
     let l = left d .before in
     let s = start (l .before) in
     omega
-    (arith, total-within _ _ _ (l .loop .inv .3) (length (s .args .bytes .now) - l .loop .from) (d .call2 .ensures), s .good .1 .1 .1 .1 .0 .0)
+    (arith, total-within _ _ _ (l .loop .inv .4) (length (s .args .bytes .now) - l .loop .from) (d .call2 .ensures), s .good .1 .1 .1 .1 .1 .1 .0 .0)
 
 same-length : tie.Need-same-length Inv-loop μ-loop
 same-length c = search needs
@@ -134,6 +136,9 @@ same-length-2 c = search needs
 same-length-3 : tie.Need-same-length-3 Inv-loop μ-loop
 same-length-3 c = search needs
 
+same-length-4 : tie.Need-same-length-4 Inv-loop μ-loop
+same-length-4 c = search needs
+
 returns-2 : tie.Need-returns-2 Inv-loop μ-loop
 returns-2 c =
     let d = last c in
@@ -142,7 +147,7 @@ returns-2 c =
     let r = d .call2 .ensures in
     with-claim _ _ _ _
     (run-accepted _ _ _ _ (u .before .before .before .«open» .ensures) (u .if1 .left)
-    (cutting-ends _ _ _ (t .before .loop .inv .3) (t .loop-test .left) r))
+    (cutting-ends _ _ _ (t .before .loop .inv .4) (t .loop-test .left) r))
 
 pub run-pieces-spec : {M : Type 1} → statement M
 run-pieces-spec =
@@ -168,8 +173,9 @@ run-pieces-spec =
     part-call-start-2
     part-call-end-2
     call-requires-2
-    add-t19
+    add-t21
     same-length
     same-length-2
     same-length-3
+    same-length-4
     returns-2)

@@ -12,7 +12,7 @@ use Rattle.state.specs.declared.Lengths.{Lengths}
 use Rattle.state.specs.declared.Refusal.{Refusal}
 use Rattle.state.specs.declared.State.{State}
 use Rattle.transfer_list.specs.Header.{firstLine, headerOf}
-use Rattle.transfer_list.specs.Opening.{openRefusal, firstAt, acceptedState, refusedState, openState}
+use Rattle.transfer_list.specs.Opening.{openRefusal, firstAt, acceptedState, noLengths, refusedState, openState}
 use Rattle.transfer_list.specs.declared.header.Header.{Header}
 use Rattle.transfer_list.specs.declared.header.HeaderRead.{HeaderRead}
 use Rattle.transfer_list.specs.declared.header.HeaderRead.the-variants.{Good, Bad}
@@ -21,7 +21,7 @@ use Rattle.transfer_list.proofs.open.Tie as tie
 
 -- what `openState` says, by cases
 module _ (s : List ℕ) (lengths : Lengths) {r : Refusal} {t : State} (e : r ≡ openRefusal s lengths) where
-  refused : (r .number ≡ none → ⊥) → t ≡ stateAt 0 0 r (record { list = 0; image = 0; stash = 0; work = 0 }) → t ≡ openState s lengths
+  refused : (r .number ≡ none → ⊥) → t ≡ stateAt 0 0 r noLengths → t ≡ openState s lengths
   unfolding openState refusedState
   refused n f =
       f

@@ -21,10 +21,10 @@ abbrev text : tie.Start → List ℕ
 text a = a .args .list .now
 
 abbrev first : tie.Start → Config
-first a = configOf (areasOf (a .args .image .now) (a .args .stash .now) (a .args .work .now)) (a .args .state)
+first a = configOf (areasOf (a .args .image .now) (a .args .stash .now) (a .args .work .now) (a .args .result .now) (a .args .patch .now)) (a .args .state)
 
 abbrev start : tie.Else2 → tie.Start
-start c = c .before .before .before .before .before .before .before .before .before .before
+start c = c .before .before .before .before .before .before .before .before .before .before .before .before
 
 -- the state's arrays are whole
 hashes : (a : tie.Start) → length (first a .state .hashes) ≡ tableBytes
@@ -51,7 +51,7 @@ terms-for-requires c κs = search needs
 
 run-lines-requires : tie.Need-run-lines-requires
 run-lines-requires c κs =
-    let l = c .before .before .before in
+    let l = c .before .before .before .before in
     let a = start (l .before) in
     (rw (l .terms-for .ensures) (possible-fits _ _ (possible (l .before)) (hashes a) (sizes a)), l .before .before .before .if1 .left)
 
@@ -67,10 +67,13 @@ same-length-2 c = search needs
 same-length-3 : tie.Need-same-length-3
 same-length-3 c = search needs
 
+same-length-4 : tie.Need-same-length-4
+same-length-4 c = search needs
+
 returns-3 : tie.Need-returns-3
 returns-3 c =
-    let d = c .before .before .before .before .before .before .before .before .before in
-    let l = d .before .before .before .before in
+    let d = c .before .before .before .before .before .before .before .before .before .before .before in
+    let l = d .before .before .before .before .before in
     run-call _ _ _ (l .before .before .before .if1 .left) (possible (l .before)) (l .terms-for .ensures) (d .run-lines .ensures) (c .outcome-at .ensures)
 
 pub call-spec : {M : Type 1} → statement M
@@ -86,4 +89,5 @@ call-spec =
     same-length
     same-length-2
     same-length-3
+    same-length-4
     returns-3)

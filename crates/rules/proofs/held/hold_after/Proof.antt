@@ -56,6 +56,9 @@ enum-told-7 c = search needs
 enum-told-8 : tie.Need-enum-told-8
 enum-told-8 c = search needs
 
+enum-told-9 : tie.Need-enum-told-9
+enum-told-9 c = search needs
+
 returns : tie.Need-returns
 unfolding tableAfter
 returns c = rw (c .before .before .before .before .command .given .1) (c .hold .ensures)
@@ -93,6 +96,10 @@ returns-9 : tie.Need-returns-9
 unfolding tableAfter
 returns-9 c = rw (c .enum-told8 .given .1)
 
+returns-10 : tie.Need-returns-10
+unfolding tableAfter
+returns-10 c = rw (c .enum-told9 .given .1)
+
 pub hold-after-spec : {M : Type 1} → statement M
 hold-after-spec =
     tie.close
@@ -110,6 +117,7 @@ hold-after-spec =
     enum-told-6
     enum-told-7
     enum-told-8
+    enum-told-9
     returns
     returns-2
     returns-3
@@ -118,4 +126,5 @@ hold-after-spec =
     returns-6
     returns-7
     returns-8
-    returns-9)
+    returns-9
+    returns-10)

@@ -17,13 +17,9 @@ use Rattle.rules.specs.declared.moves.Sums.{Sums}
 use Rattle.rules.specs.Move.{usesBy, someDiffer, placesNamed, sourceDiffers}
 use Rattle.rules.specs.Sums.{sumsOf}
 use borrow.Author.Needs.{needs}
-use Rattle.rules.proofs.BoundLaws.{eqb-bounded}
+use Rattle.rules.proofs.BoundLaws.{not-no, eqb-bounded}
 use Rattle.rules.proofs.moves.source_differs.Statement.{statement}
 use Rattle.rules.proofs.moves.source_differs.Tie as tie
-
-not-no : (a : Bool) → not a ≡ no a
-not-no true = refl
-not-no false = refl
 
 unequal : (m : ℕ) {r n : ℕ} → r ≡ bounded m → n < bound → not (eqb r n) ≡ no (eqb m n)
 unequal m {n = n} e l = rw (e, eqb-bounded m n l) (not-no (eqb m n))

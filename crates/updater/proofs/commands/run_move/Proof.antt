@@ -2,6 +2,7 @@
 -- Assumes nothing.
 use mathlib.Core.Path.{_≡_, sym, _∙_}
 use mathlib.Core.List.{List}
+use Prim.Native.Nat.{ℕ}
 use native.Mathlib.Omega.{arith}
 use lib.ListN.{length, length-take}
 use borrow.Author.Needs.{needs}
@@ -18,7 +19,7 @@ start c = c .before .before .before .before .before .before .before .before .bef
 abbrev stashes : tie.Start → List Stash
 stashes s = heldIn (tableAt (s .args .hashes .now) (s .args .sizes .now) (s .args .count))
 
-abbrev areas : tie.Start → Areas
+abbrev areas : tie.Start → List ℕ → List ℕ → Areas
 areas s = areasOf (s .args .image .now) (s .args .stash .now) (s .args .work .now)
 
 -- the work area is as long as it was
@@ -39,11 +40,11 @@ same-length-2 : tie.Need-same-length-2
 same-length-2 c = search needs
 
 returns : tie.Need-returns
-returns c =
+returns c result patch =
     let h = c .before in
     let s = start h in
     let a = s .args in
-    move-differs (a .l .now) (stashes s) (a .hash) (areas s) (a .target) (a .n) (a .source)
+    move-differs (a .l .now) (stashes s) (a .hash) (areas s result patch) (a .target) (a .n) (a .source)
     (h .before .before .before .before .put-together .ensures)
     (sym (h .has-hash .ensures) ∙ not-true _ (c .if1 .taken))
 
@@ -69,12 +70,12 @@ same-length-4 : tie.Need-same-length-4
 same-length-4 c = search needs
 
 returns-2 : tie.Need-returns-2
-returns-2 c =
+returns-2 c result patch =
     let e = c .before .before .before .before .before in
     let h = e .before in
     let s = start h in
     let a = s .args in
-    move-done (a .l .now) (stashes s) (a .hash) (areas s) (a .target) (a .n) (a .source)
+    move-done (a .l .now) (stashes s) (a .hash) (areas s result patch) (a .target) (a .n) (a .source)
     (h .before .before .before .before .put-together .ensures)
     (sym (h .has-hash .ensures) ∙ not-false _ (e .if1 .left))
     (c .before .before .write-set .ensures)

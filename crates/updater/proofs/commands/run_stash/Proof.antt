@@ -2,6 +2,7 @@
 -- Assumes nothing.
 use mathlib.Core.Path.{_≡_, sym, _∙_}
 use mathlib.Core.List.{List}
+use Prim.Native.Nat.{ℕ}
 use native.Mathlib.Omega.{arith}
 use borrow.Author.Needs.{needs}
 use borrow.Author.Tests.{not-true, not-false}
@@ -21,7 +22,7 @@ table s = tableAt (s .args .hashes .now) (s .args .sizes .now) (s .args .count)
 abbrev stashes : tie.Start → List Stash
 stashes s = heldIn (table s)
 
-abbrev areas : tie.Start → Areas
+abbrev areas : tie.Start → List ℕ → List ℕ → Areas
 areas s = areasOf (s .args .image .now) (s .args .stash .now) (s .args .work .now)
 
 -- all blocks held
@@ -43,10 +44,10 @@ same-length-2 : tie.Need-same-length-2
 same-length-2 c = search needs
 
 returns : tie.Need-returns
-returns c =
+returns c result patch =
     let h = c .before in
     let s = start h in
-    stash-differs (s .args .l .now) (stashes s) (s .args .hash) (areas s) (s .args .set) (h .before .before .before .before .supply .ensures)
+    stash-differs (s .args .l .now) (stashes s) (s .args .hash) (areas s result patch) (s .args .set) (h .before .before .before .before .supply .ensures)
     (sym (h .has-hash .ensures) ∙ not-true _ (c .if1 .taken))
 
 blocks-before-requires : tie.Need-blocks-before-requires
@@ -72,11 +73,11 @@ same-length-4 : tie.Need-same-length-4
 same-length-4 c = search needs
 
 returns-2 : tie.Need-returns-2
-returns-2 c =
+returns-2 c result patch =
     let b = c .before .before .before .before .before in
     let h = b .before .before in
     let s = start h in
-    stash-done (s .args .l .now) (stashes s) (s .args .hash) (areas s) (s .args .set) (h .before .before .before .before .supply .ensures)
+    stash-done (s .args .l .now) (stashes s) (s .args .hash) (areas s result patch) (s .args .set) (h .before .before .before .before .supply .ensures)
     (sym (h .has-hash .ensures) ∙ not-false _ (b .before .if1 .left))
     (rw (all b) at (c .before .before .copy-over .ensures))
 

@@ -12,28 +12,29 @@ use Rattle.state.specs.Stashes.{Stash, tableAt, heldIn}
 use Rattle.command.specs.Parts.{usesAt}
 use Rattle.command.specs.declared.source.Source.{Source}
 use Rattle.command.specs.declared.source.Source.the-variants.{Blocks, Stashes, Both}
-use Rattle.updater.specs.Areas.{Areas, areasOf}
 use Rattle.updater.specs.Bytes.{gathered, written}
 use Rattle.updater.specs.Source.{spread, supplied, together}
-use Rattle.updater.specs.Runnable.{Spreads, InImage, InWork, Sourced, workBlocksOf}
+use Rattle.updater.specs.Runnable.{Spreads, InImage, InWork, Sourced, blocksIn}
 use Rattle.updater.proofs.SourceLaws.{walk-blocks}
 use Rattle.updater.proofs.source.put_together.Statement.{statement}
 use Rattle.updater.proofs.source.put_together.Tie as tie
 
 -- ---- each form of a source: what it rests on, and what it leaves
-module _ (l : List ℕ) (xs : List Stash) (a : Areas) {source : Source} where
-  sourced-blocks : {set : RangeSet} → source ≡ Blocks set → Sourced l xs a source → InImage l (a .image) set × (set .blocks ≤ workBlocksOf a)
+module _ (l : List ℕ) (xs : List Stash) (image work : List ℕ) {source : Source} where
+  sourced-blocks : {set : RangeSet} → source ≡ Blocks set → Sourced l xs image work source →
+      InImage l image set × (set .blocks ≤ blocksIn work)
   unfolding Sourced
-  sourced-blocks e h = subst (Sourced l xs a) e h
+  sourced-blocks e h = subst (Sourced l xs image work) e h
 
-  sourced-stashes : {first : ℕ} → source ≡ Stashes first → Sourced l xs a source → Spreads l xs (workBlocksOf a) (usesAt l first)
+  sourced-stashes : {first : ℕ} → source ≡ Stashes first → Sourced l xs image work source →
+      Spreads l xs (blocksIn work) (usesAt l first)
   unfolding Sourced
-  sourced-stashes e h = subst (Sourced l xs a) e h
+  sourced-stashes e h = subst (Sourced l xs image work) e h
 
-  sourced-both : {set places : RangeSet} {first : ℕ} → source ≡ Both set places first → Sourced l xs a source →
-      InImage l (a .image) set × InWork l (a .work) set places × Spreads l xs (workBlocksOf a) (usesAt l first)
+  sourced-both : {set places : RangeSet} {first : ℕ} → source ≡ Both set places first → Sourced l xs image work source →
+      InImage l image set × InWork l work set places × Spreads l xs (blocksIn work) (usesAt l first)
   unfolding Sourced
-  sourced-both e h = subst (Sourced l xs a) e h
+  sourced-both e h = subst (Sourced l xs image work) e h
 
 module _ (l image stash : List ℕ) (xs : List Stash) {source : Source} (work : List ℕ) {work' : List ℕ} where
   together-blocks : {set : RangeSet} → source ≡ Blocks set → work' ≡ supplied l image (set .at) (set .blocks) work →
@@ -55,9 +56,6 @@ module _ (l image stash : List ℕ) (xs : List Stash) {source : Source} (work : 
 abbrev stashes : tie.Start → List Stash
 stashes s = heldIn (tableAt (s .args .hashes .now) (s .args .sizes .now) (s .args .count))
 
-abbrev lent : tie.Start → Areas
-lent s = areasOf (s .args .image .now) (s .args .stash .now) (s .args .work .now)
-
 abbrev start : tie.After-source → tie.Start
 start c = c .before .before .before .before .before .before
 
@@ -71,8 +69,8 @@ both : (c : tie.After-source3) →
     let l = start3 c .args .l .now in
     InImage l (start3 c .args .image .now) (c .source3 .given .0 .0)
     × InWork l (start3 c .args .work .now) (c .source3 .given .0 .0) (c .source3 .given .0 .1 .0)
-    × Spreads l (stashes (start3 c)) (workBlocksOf (lent (start3 c))) (usesAt l (c .source3 .given .0 .1 .1 .0))
-both c = sourced-both _ (stashes (start3 c)) (lent (start3 c)) (c .source3 .given .1) (start3 c .pre .1)
+    × Spreads l (stashes (start3 c)) (blocksIn (start3 c .args .work .now)) (usesAt l (c .source3 .given .0 .1 .1 .0))
+both c = sourced-both _ (stashes (start3 c)) _ _ (c .source3 .given .1) (start3 c .pre .1)
 
 abbrev form : tie.After-walk-from2 → tie.After-source3
 form c = c .before .before .before .before
@@ -92,7 +90,7 @@ enum-known-source c = search needs
 supply-requires : tie.Need-supply-requires
 supply-requires c κs =
     let b = c .before .before in
-    sourced-blocks _ (stashes (start b)) (lent (start b)) (b .source .given .1) (start b .pre .1)
+    sourced-blocks _ (stashes (start b)) _ _ (b .source .given .1) (start b .pre .1)
 
 enum-known-source-2 : tie.Need-enum-known-source-2
 enum-known-source-2 c = search needs
@@ -101,7 +99,7 @@ spread-stashes-requires : tie.Need-spread-stashes-requires
 spread-stashes-requires c κs =
     let b = c .before .before in
     let s = start2 b in
-    (s .pre .0, sourced-stashes _ (stashes s) (lent s) (b .source2 .given .1) (s .pre .1))
+    (s .pre .0, sourced-stashes _ (stashes s) _ _ (b .source2 .given .1) (s .pre .1))
 
 enum-known-source-3 : tie.Need-enum-known-source-3
 enum-known-source-3 c = search needs

@@ -1,12 +1,12 @@
--- `command::read_length` meets its contract: what was read picks the case of `moveTo`. Assumes nothing.
+-- `command::sourced::read_length` meets its contract: what was read picks the case of `lengthFrom`. Assumes nothing.
 use borrow.Author.Needs.{needs}
-use Rattle.command.specs.Commands.{moveTo}
+use Rattle.command.specs.Commands.{lengthFrom}
 use Rattle.command.proofs.ReadLaws.{reading}
-use Rattle.command.proofs.read_length.Statement.{statement}
-use Rattle.command.proofs.read_length.Tie as tie
+use Rattle.command.proofs.sourced.read_length.Statement.{statement}
+use Rattle.command.proofs.sourced.read_length.Tie as tie
 
 pub read-length-spec : {M : Type 1} → statement M
-unfolding moveTo
+unfolding lengthFrom
 read-length-spec =
     tie.close
     (tie.spec
@@ -16,6 +16,7 @@ read-length-spec =
     (λ c κs. search needs)
     (λ c. search needs)
     (λ c. search needs)
+    (λ c κs. search needs)
     (λ c. search reading)
     (λ c. search reading)
     (λ c. search reading))

@@ -4,8 +4,8 @@ use native.Mathlib.Omega.{arith}
 use lib.ListN.{length-take}
 use borrow.Author.Needs.{needs}
 use Rattle.updater.specs.Source.{hashesTo}
-use Rattle.updater.proofs.commands.has_hash.Statement.{statement}
-use Rattle.updater.proofs.commands.has_hash.Tie as tie
+use Rattle.updater.proofs.digest.has_hash.Statement.{statement}
+use Rattle.updater.proofs.digest.has_hash.Tie as tie
 
 mul-size : tie.Need-mul-size
 mul-size c = search needs

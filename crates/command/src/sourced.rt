@@ -1,0 +1,66 @@
+// What a `move` and a `bsdiff` have in common: a target, N and a source.
+ghost use mathlib.Core.Path.{_≡_};
+ghost use Rattle.command.specs.Commands.{commandFor, lengthFrom, targetFrom};
+use crate::Command;
+use crate::field::read_number_field;
+use crate::field::read_set_field;
+use crate::source::Source;
+use crate::source::SourceRead;
+use crate::source::read_source;
+use ranges::RangeSet;
+use ranges::Ranges;
+use text::number::Number;
+
+// The patch of a `bsdiff`: where it starts in the patch data, O, and its bytes, B; and where the digest of what it makes, T, stands in the
+// line.
+pub struct Patching {
+    pub start: u32,
+    pub length: u32,
+    pub digest: usize,
+}
+
+// What a source is put together for.
+pub(crate) enum Purpose {
+    Move,
+    Bsdiff(Patching),
+}
+
+fn command_for(purpose: Purpose, target: RangeSet, length: u32, source: Source) -> Command
+    ensures { λ r. ⌜ r ≡ commandFor purpose target length source ⌝ }
+{
+    match purpose {
+        Purpose::Move => Command::Move {
+            target,
+            length,
+            source,
+        },
+        Purpose::Bsdiff(patching) => Command::Bsdiff {
+            patching,
+            target,
+            length,
+            source,
+        },
+    }
+}
+
+// N and the source, after the target.
+fn read_length(l: &[u8], purpose: Purpose, target: RangeSet, at: usize) -> Command
+    ensures { λ r. ⌜ r ≡ lengthFrom (now (l .entry)) purpose target at ⌝ }
+{
+    match read_number_field(l, at) {
+        Number::Bad(p) => Command::Bad(p),
+        Number::Good(length, i) => match read_source(l, i) {
+            SourceRead::Bad(p) => Command::Bad(p),
+            SourceRead::Good(source) => command_for(purpose, target, length, source),
+        },
+    }
+}
+
+pub(crate) fn read_target(l: &[u8], purpose: Purpose, at: usize) -> Command
+    ensures { λ r. ⌜ r ≡ targetFrom (now (l .entry)) purpose at ⌝ }
+{
+    match read_set_field(l, at) {
+        Ranges::Bad(p) => Command::Bad(p),
+        Ranges::Good(target, i) => read_length(l, purpose, target, i),
+    }
+}

@@ -4,23 +4,25 @@
  *
  * For C99 and C++98, and later ones. Link with libmuongrabi.a: `pkg-config --cflags --libs muongrabi` after `./install PREFIX`, or
  * target/staticlib/libmuongrabi.a as it is built. The archive is for x86-64 Linux, and not yet for AArch64; it wants memcpy, memmove and
- * memset of the C library, some 30 KiB of stack, and nothing else. Nothing is allocated, no file is opened and no state is kept inside:
+ * memset of the C library, some 32 KiB of stack, and nothing else. Nothing is allocated, no file is opened and no state is kept inside:
  * everything a function works on is lent by the caller, and what must be remembered between calls is the state it gives back.
  *
- *     muongrabi_state state = muongrabi_open(list, list_length, image_length, stash_length, work_length);
+ *     muongrabi_state state = muongrabi_open(list, list_length, image_length, stash_length, work_length, result_length, patch_length);
  *     while (there is new data, or once with none) {
- *         muongrabi_answer answer = muongrabi_call(list, list_length, image, image_length, stash, stash_length,
- *                                                  work, work_length, piece, piece_length, state);
+ *         muongrabi_answer answer = muongrabi_call(list, list_length, image, image_length, stash, stash_length, work, work_length,
+ *                                                  result, result_length, patch, patch_length, piece, piece_length, state);
  *         state = answer.state;
  *         if (answer.outcome != MUONGRABI_MORE) break;
  *     }
  *
+ * A list without `bsdiff` needs no result area and no patch data: lend null and 0.
+ *
  * A first image that comes as a sparse file: muongrabi_sparse_load(file, file_length, image, image_length), which gives 0 or a refusal number.
  *
- * For all functions: a pointer with length n names n readable bytes, writable ones for image, stash and work; cuts names n readable
+ * For all functions: a pointer with length n names n readable bytes, writable ones for image, stash, work and result; cuts names n readable
  * numbers; out names 20 writable bytes and is not null. A null pointer elsewhere names no bytes and no numbers, whatever n is given with
- * it. What is written (image, stash, work, out) overlaps nothing else that the same call is lent. Every value of every byte, number and
- * state field is allowed and gets an answer.
+ * it. What is written (image, stash, work, result, out) overlaps nothing else that the same call is lent. Every value of every byte, number
+ * and state field is allowed and gets an answer.
  */
 #ifndef MUONGRABI_H
 #define MUONGRABI_H
@@ -36,13 +38,14 @@
 extern "C" {
 #endif
 
-#define MUONGRABI_VERSION "0.3.0"
-#define MUONGRABI_ABI 1   /* another number whenever the layout of a struct or the parameters of a function below change */
+#define MUONGRABI_VERSION "0.4.0"
+#define MUONGRABI_ABI 2   /* another number whenever the layout of a struct or the parameters of a function below change */
 
 /* Limits, 64 bits wide, so that blocks times bytes do not wrap. */
 #define MUONGRABI_BLOCK 4096ul          /* bytes of a block */
 #define MUONGRABI_MOST_IMAGE 1048576ul  /* blocks of the image */
 #define MUONGRABI_MOST_AREA 4096ul      /* blocks of the stash area, and of the work area */
+#define MUONGRABI_MOST_RESULT 4096ul    /* blocks of the result area */
 #define MUONGRABI_MOST_LIST 4194304ul   /* bytes of the list */
 #define MUONGRABI_MOST_STASHES 64ul     /* stashes held at once */
 
@@ -54,28 +57,30 @@ extern "C" {
 /*
  * Refusal numbers. The line given with one is that line of the list, counted from 1, where nothing else is said.
  *
- * An opening gives 1 to 15 and looks at no block. A call gives 6 to 14, 16 and 17, and repeats the refusal that its state holds. On
- * the list that was opened, with the states given back and areas of the same lengths, it gives 16 only. Loading a sparse file gives 30 to
- * 36, which have no line, and nothing else does.
+ * An opening gives 1 to 15 and 18, and looks at no block and at no patch. A call gives 6 to 14 and 16 to 19, and repeats the refusal that
+ * its state holds. On the list that was opened, with the states given back and areas and patch data of the same lengths, it gives 16 and
+ * 19 only. Loading a sparse file gives 30 to 36, which have no line, and nothing else does.
  */
 enum muongrabi_refusal_number {
-    MUONGRABI_REFUSAL_AREA_SIZE = 1,         /* image, stash or work area not whole blocks, or over its limit; line 0 */
+    MUONGRABI_REFUSAL_AREA_SIZE = 1,         /* image, stash, work or result area not whole blocks, or over its limit; line 0 */
     MUONGRABI_REFUSAL_LIST_LENGTH = 2,       /* list too long; line 0 */
     MUONGRABI_REFUSAL_HEADER_FORM = 3,       /* header line absent, ill formed or without LF */
     MUONGRABI_REFUSAL_OTHER_VERSION = 4,     /* version not 3; line 1 */
     MUONGRABI_REFUSAL_HEADER_LIMIT = 5,      /* line 3 over 64; else line 4 over the stash area */
     MUONGRABI_REFUSAL_LINE_FORM = 6,         /* command line ill formed, or its word unknown */
-    MUONGRABI_REFUSAL_UNSUPPORTED = 7,       /* first word bsdiff or imgdiff, whatever follows */
+    MUONGRABI_REFUSAL_UNSUPPORTED = 7,       /* first word imgdiff, whatever follows */
     MUONGRABI_REFUSAL_PAST_IMAGE = 8,        /* a range of target or image source ends past the image */
-    MUONGRABI_REFUSAL_PAST_WORK = 9,         /* N, or an image source, larger than the work area */
-    MUONGRABI_REFUSAL_NOT_HELD = 10,         /* a stash named in move or free is not held */
-    MUONGRABI_REFUSAL_SIZES_DIFFER = 11,     /* sizes of target, source and places do not agree */
+    MUONGRABI_REFUSAL_PAST_AREA = 9,         /* N, or an image source, larger than the work area; bsdiff's target than the result area */
+    MUONGRABI_REFUSAL_NOT_HELD = 10,         /* a stash named in move, bsdiff or free is not held */
+    MUONGRABI_REFUSAL_SIZES_DIFFER = 11,     /* sizes of target, source and places do not agree; bsdiff's target may have any */
     MUONGRABI_REFUSAL_MISPLACED = 12,        /* a place at N or above, or taken twice */
     MUONGRABI_REFUSAL_HELD_ALREADY = 13,     /* the hash to be stashed is held already */
     MUONGRABI_REFUSAL_NO_ROOM = 14,          /* holding it would pass line 3 or line 4 */
-    MUONGRABI_REFUSAL_TOTAL_DIFFERS = 15,    /* all new, zero and move targets together differ from line 2; line 2 */
-    MUONGRABI_REFUSAL_HASH_DIFFERS = 16,     /* in a run: a source's SHA-1 is not the one in the list */
-    MUONGRABI_REFUSAL_STATE_IMPOSSIBLE = 17, /* in a call: state impossible, or the length of list, image or area changed; line 0 */
+    MUONGRABI_REFUSAL_TOTAL_DIFFERS = 15,    /* all new, zero, move and bsdiff targets together differ from line 2; line 2 */
+    MUONGRABI_REFUSAL_HASH_DIFFERS = 16,     /* in a run: the SHA-1 of a source, or of a patch's result, is not the one in the list */
+    MUONGRABI_REFUSAL_STATE_IMPOSSIBLE = 17, /* in a call: state impossible, or the length of list, image, area or patch data changed; line 0 */
+    MUONGRABI_REFUSAL_PAST_PATCH = 18,       /* bsdiff's offset and length pass the end of the patch data */
+    MUONGRABI_REFUSAL_PATCH_MALFORMED = 19,  /* in a run: the patch is malformed, or its result is not as long as the target */
 
     MUONGRABI_REFUSAL_SPARSE_HEADER = 30,     /* sparse file's header cut short, or its mark or major version another */
     MUONGRABI_REFUSAL_SPARSE_SIZES = 31,      /* its header sizes not 28 and 12, or its block size not 4096 */
@@ -98,23 +103,25 @@ static inline const char *muongrabi_refusal_text(size_t number)
 {
     static const char *const texts[] = {
         "nothing is refused",
-        "the image, stash or work area is not whole blocks of 4096 bytes, or is over its limit",
+        "the image, stash, work or result area is not whole blocks of 4096 bytes, or is over its limit",
         "the list is longer than 4194304 bytes",
         "a header line is missing, is no number from 0 to 4294967295 in plain digits, or has no line feed",
         "the list's version is not 3",
         "the list asks for more than 64 stashes, or for more blocks than the stash area has",
         "the line is not a command: its word is unknown, or its form is wrong",
-        "the commands bsdiff and imgdiff are not supported",
+        "the command imgdiff is not supported",
         "a range of the target or source ends past the image",
-        "the source is larger than the work area",
+        "the source is larger than the work area, or the target than the result area",
         "the line names a stash that is not held",
         "the sizes of target, source and places do not agree",
         "a place lies past the end of the source, or is taken twice",
         "a stash of this hash is held already",
         "the stash would pass the number of stashes (line 3) or of blocks (line 4)",
-        "the targets of all new, zero and move lines together do not have as many blocks as line 2 says",
-        "the source does not have the hash that the list gives",
-        "the state does not fit the list and the areas of this call",
+        "the targets of all new, zero, move and bsdiff lines together do not have as many blocks as line 2 says",
+        "the source, or what a patch makes of it, does not have the hash that the list gives",
+        "the state does not fit the list, the areas and the patch data of this call",
+        "the line's patch ends past the patch data",
+        "the patch is malformed, or what it makes is not as long as the target",
     };
     static const char *const texts_from_30[] = {
         "the file is no sparse file of major version 1: its header is cut short, or the mark or the version in it is another",
@@ -142,6 +149,8 @@ typedef struct muongrabi_lengths {
     size_t image;
     size_t stash;
     size_t work;
+    size_t result;
+    size_t patch;
 } muongrabi_lengths;
 
 /*
@@ -178,7 +187,7 @@ typedef struct muongrabi_answer {
 #endif
 MUONGRABI_LAYOUT(number, sizeof(size_t) == 8);
 MUONGRABI_LAYOUT(refusal, sizeof(muongrabi_refusal) == 16);
-MUONGRABI_LAYOUT(lengths, sizeof(muongrabi_lengths) == 32);
+MUONGRABI_LAYOUT(lengths, sizeof(muongrabi_lengths) == 48);
 MUONGRABI_LAYOUT(state_sizes, offsetof(muongrabi_state, sizes) == 1280);
 MUONGRABI_LAYOUT(state_count, offsetof(muongrabi_state, count) == 1792);
 MUONGRABI_LAYOUT(state_line, offsetof(muongrabi_state, line) == 1800);
@@ -186,37 +195,44 @@ MUONGRABI_LAYOUT(state_at, offsetof(muongrabi_state, at) == 1808);
 MUONGRABI_LAYOUT(state_into, offsetof(muongrabi_state, into) == 1816);
 MUONGRABI_LAYOUT(state_refusal, offsetof(muongrabi_state, refusal) == 1824);
 MUONGRABI_LAYOUT(state_lengths, offsetof(muongrabi_state, lengths) == 1840);
-MUONGRABI_LAYOUT(state, sizeof(muongrabi_state) == 1872);
-MUONGRABI_LAYOUT(answer_outcome, offsetof(muongrabi_answer, outcome) == 1872);
-MUONGRABI_LAYOUT(answer_number, offsetof(muongrabi_answer, number) == 1880);
-MUONGRABI_LAYOUT(answer_line, offsetof(muongrabi_answer, line) == 1888);
-MUONGRABI_LAYOUT(answer_taken, offsetof(muongrabi_answer, taken) == 1896);
-MUONGRABI_LAYOUT(answer, sizeof(muongrabi_answer) == 1904);
+MUONGRABI_LAYOUT(state, sizeof(muongrabi_state) == 1888);
+MUONGRABI_LAYOUT(answer_outcome, offsetof(muongrabi_answer, outcome) == 1888);
+MUONGRABI_LAYOUT(answer_number, offsetof(muongrabi_answer, number) == 1896);
+MUONGRABI_LAYOUT(answer_line, offsetof(muongrabi_answer, line) == 1904);
+MUONGRABI_LAYOUT(answer_taken, offsetof(muongrabi_answer, taken) == 1912);
+MUONGRABI_LAYOUT(answer, sizeof(muongrabi_answer) == 1920);
 #undef MUONGRABI_LAYOUT
 
 /* MUONGRABI_ABI as the archive has it. The name has the number too: what was compiled with a header of another ABI does not link. */
-size_t muongrabi_abi_1(void);
+size_t muongrabi_abi_2(void);
 
 /* Writes the SHA-1 digest of the bytes to out. */
 void muongrabi_digest(const uint8_t *bytes, size_t bytes_length, uint8_t out[20]);
 
 /*
- * Checks the whole list for areas of these lengths in bytes. Nothing but the list is read, and nothing is written. In the state given
- * back, refusal.number is 0 when the list is accepted; otherwise it holds the refusal and all else is 0.
+ * Checks the whole list for areas and patch data of these lengths in bytes. Nothing but the list is read, and nothing is written. In the
+ * state given back, refusal.number is 0 when the list is accepted; otherwise it holds the refusal and all else is 0.
  */
-muongrabi_state muongrabi_open(const uint8_t *list, size_t list_length, size_t image_length, size_t stash_length, size_t work_length);
+muongrabi_state muongrabi_open(const uint8_t *list, size_t list_length, size_t image_length, size_t stash_length, size_t work_length,
+                               size_t result_length, size_t patch_length);
 
 /*
  * Runs the list from where the state stands until it needs a byte that the piece does not have, the list is finished, or a line is
  * refused. A refusal other than 17 is held in the state given back, and every later call repeats it. With 17 the state comes back as
- * it was, and nothing is taken or changed. A refused line changes nothing itself, except the work area where its hash differs (16).
- * Nothing rests on what the opening found: state and lengths are looked at (17), and each line is read and checked again (6 to 14) before
- * it runs, so that a line altered since then is refused where it stands. Line 2 is the opening's alone (15).
+ * it was, and nothing is taken or changed. A refused line changes nothing itself, with two exceptions: where a hash differs (16) or a patch
+ * is malformed (19) the work area has the source, and where it is the hash of a patch's result, the result area has the result. Nothing
+ * rests on what the opening found: state and lengths are looked at (17), and each line is read and checked again (6 to 14, 18) before it
+ * runs, so that a line altered since then is refused where it stands. Line 2 is the opening's alone (15).
+ *
+ * A `bsdiff` puts its source together in the work area, and what the patch makes of it in the result area; only where both have their
+ * hashes is the result written to the image.
  */
 muongrabi_answer muongrabi_call(const uint8_t *list, size_t list_length,
                                 uint8_t *image, size_t image_length,
                                 uint8_t *stash, size_t stash_length,
                                 uint8_t *work, size_t work_length,
+                                uint8_t *result, size_t result_length,
+                                const uint8_t *patch, size_t patch_length,
                                 const uint8_t *piece, size_t piece_length,
                                 muongrabi_state state);
 
@@ -229,6 +245,8 @@ muongrabi_answer muongrabi_run(const uint8_t *list, size_t list_length,
                                uint8_t *image, size_t image_length,
                                uint8_t *stash, size_t stash_length,
                                uint8_t *work, size_t work_length,
+                               uint8_t *result, size_t result_length,
+                               const uint8_t *patch, size_t patch_length,
                                const uint8_t *data, size_t data_length,
                                const size_t *cuts, size_t cuts_length);
 
@@ -243,7 +261,7 @@ uint32_t muongrabi_sparse_load(const uint8_t *file, size_t file_length, uint8_t 
 
 /*
  * Null pointers. The exports want a pointer that is not null even where they read nothing through it. So each name above stands, from here
- * on, for an inline function that lends no bytes where it is given null. All but the digest's name muongrabi_abi_1 too. Who calls the exports
+ * on, for an inline function that lends no bytes where it is given null. All but the digest's name muongrabi_abi_2 too. Who calls the exports
  * from another language passes pointers that are not null.
  */
 static inline const uint8_t *muongrabi_lent_bytes(const uint8_t *bytes)
@@ -275,25 +293,30 @@ static inline void muongrabi_digest_lent(const uint8_t *bytes, size_t bytes_leng
 }
 
 static inline muongrabi_state muongrabi_open_lent(const uint8_t *list, size_t list_length,
-                                                  size_t image_length, size_t stash_length, size_t work_length)
+                                                  size_t image_length, size_t stash_length, size_t work_length,
+                                                  size_t result_length, size_t patch_length)
 {
-    (void)muongrabi_abi_1();
+    (void)muongrabi_abi_2();
     return muongrabi_open(muongrabi_lent_bytes(list), muongrabi_lent_length(list, list_length),
-                          image_length, stash_length, work_length);
+                          image_length, stash_length, work_length, result_length, patch_length);
 }
 
 static inline muongrabi_answer muongrabi_call_lent(const uint8_t *list, size_t list_length,
                                                    uint8_t *image, size_t image_length,
                                                    uint8_t *stash, size_t stash_length,
                                                    uint8_t *work, size_t work_length,
+                                                   uint8_t *result, size_t result_length,
+                                                   const uint8_t *patch, size_t patch_length,
                                                    const uint8_t *piece, size_t piece_length,
                                                    muongrabi_state state)
 {
-    (void)muongrabi_abi_1();
+    (void)muongrabi_abi_2();
     return muongrabi_call(muongrabi_lent_bytes(list), muongrabi_lent_length(list, list_length),
                           muongrabi_lent_area(image), muongrabi_lent_length(image, image_length),
                           muongrabi_lent_area(stash), muongrabi_lent_length(stash, stash_length),
                           muongrabi_lent_area(work), muongrabi_lent_length(work, work_length),
+                          muongrabi_lent_area(result), muongrabi_lent_length(result, result_length),
+                          muongrabi_lent_bytes(patch), muongrabi_lent_length(patch, patch_length),
                           muongrabi_lent_bytes(piece), muongrabi_lent_length(piece, piece_length), state);
 }
 
@@ -301,21 +324,25 @@ static inline muongrabi_answer muongrabi_run_lent(const uint8_t *list, size_t li
                                                   uint8_t *image, size_t image_length,
                                                   uint8_t *stash, size_t stash_length,
                                                   uint8_t *work, size_t work_length,
+                                                  uint8_t *result, size_t result_length,
+                                                  const uint8_t *patch, size_t patch_length,
                                                   const uint8_t *data, size_t data_length,
                                                   const size_t *cuts, size_t cuts_length)
 {
-    (void)muongrabi_abi_1();
+    (void)muongrabi_abi_2();
     return muongrabi_run(muongrabi_lent_bytes(list), muongrabi_lent_length(list, list_length),
                          muongrabi_lent_area(image), muongrabi_lent_length(image, image_length),
                          muongrabi_lent_area(stash), muongrabi_lent_length(stash, stash_length),
                          muongrabi_lent_area(work), muongrabi_lent_length(work, work_length),
+                         muongrabi_lent_area(result), muongrabi_lent_length(result, result_length),
+                         muongrabi_lent_bytes(patch), muongrabi_lent_length(patch, patch_length),
                          muongrabi_lent_bytes(data), muongrabi_lent_length(data, data_length),
                          muongrabi_lent_numbers(cuts), muongrabi_lent_length(cuts, cuts_length));
 }
 
 static inline uint32_t muongrabi_sparse_load_lent(const uint8_t *file, size_t file_length, uint8_t *image, size_t image_length)
 {
-    (void)muongrabi_abi_1();
+    (void)muongrabi_abi_2();
     return muongrabi_sparse_load(muongrabi_lent_bytes(file), muongrabi_lent_length(file, file_length),
                                  muongrabi_lent_area(image), muongrabi_lent_length(image, image_length));
 }

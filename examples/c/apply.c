@@ -1,8 +1,8 @@
 /*
- * Applies an update: apply LIST IMAGE NEW
+ * Applies an update: apply LIST IMAGE NEW [PATCH]
  *
  * LIST is the transfer list, IMAGE the image that is updated in its place, NEW the new data, read in pieces, so it may be larger than
- * memory. The image is written back after a run, refused or not; a refused opening leaves it alone. Prints `done T`, `more T` (T: bytes of
+ * memory, and PATCH the patch data, where the list has `bsdiff` lines. The image is written back after a run, refused or not; a refused opening leaves it alone. Prints `done T`, `more T` (T: bytes of
  * new data taken) or `refused: ` and why. Exit status: 0 done, 1 more or refused, 2 for a file that cannot be read or written.
  */
 #include <stdio.h>
@@ -52,23 +52,30 @@ static int refused(size_t number, size_t line)
 
 int main(int argc, char **argv)
 {
-    if (argc != 4) {
-        fprintf(stderr, "usage: apply LIST IMAGE NEW\n");
+    if (argc != 4 && argc != 5) {
+        fprintf(stderr, "usage: apply LIST IMAGE NEW [PATCH]\n");
         return 2;
     }
     FILE *list_file = open_file(argv[1], "rb"), *image_file = open_file(argv[2], "r+b"), *data = open_file(argv[3], "rb");
-    size_t list_length, image_length;
+    size_t list_length, image_length, patch_length = 0;
     uint8_t *list = read_file(list_file, argv[1], &list_length);
     uint8_t *image = read_file(image_file, argv[2], &image_length);
+    uint8_t *patch = NULL;
+    if (argc == 5) {
+        FILE *patch_file = open_file(argv[4], "rb");
+        patch = read_file(patch_file, argv[4], &patch_length);
+        fclose(patch_file);
+    }
 
     /* The largest areas, so that no list is refused for want of room. */
-    size_t area_length = MUONGRABI_MOST_AREA * MUONGRABI_BLOCK;
+    size_t area_length = MUONGRABI_MOST_AREA * MUONGRABI_BLOCK, result_length = MUONGRABI_MOST_RESULT * MUONGRABI_BLOCK;
     uint8_t *stash = calloc(1, area_length);
     uint8_t *work = calloc(1, area_length);
-    if (!stash || !work) fail("areas");
+    uint8_t *result = calloc(1, result_length);
+    if (!stash || !work || !result) fail("areas");
 
     int status;
-    muongrabi_state state = muongrabi_open(list, list_length, image_length, area_length, area_length);
+    muongrabi_state state = muongrabi_open(list, list_length, image_length, area_length, area_length, result_length, patch_length);
     if (state.refusal.number != 0) {
         status = refused(state.refusal.number, state.refusal.line);
     } else {
@@ -77,7 +84,8 @@ int main(int argc, char **argv)
         muongrabi_answer answer;
         do {
             got = fread(piece, 1, sizeof piece, data);
-            answer = muongrabi_call(list, list_length, image, image_length, stash, area_length, work, area_length, piece, got, state);
+            answer = muongrabi_call(list, list_length, image, image_length, stash, area_length, work, area_length,
+                                    result, result_length, patch, patch_length, piece, got, state);
             state = answer.state;
             taken += answer.taken;
         } while (answer.outcome == MUONGRABI_MORE && got == sizeof piece);
@@ -97,6 +105,8 @@ int main(int argc, char **argv)
     free(image);
     free(stash);
     free(work);
+    free(result);
+    free(patch);
     fclose(list_file);
     fclose(data);
     fclose(image_file);

@@ -1,6 +1,6 @@
 /*
- * Lent areas stand against a page that may not be touched, behind them or before them, and list, piece, cuts and sparse file may not be
- * written: a byte read or written outside what was lent ends the program. What is null, and refusals in words, are tried after that. Ends in one line
+ * Lent areas stand against a page that may not be touched, behind them or before them, and list, patch data, piece, cuts and sparse file may
+ * not be written: a byte read or written outside what was lent ends the program. What is null, and refusals in words, are tried after that. Ends in one line
  * `N passed, M failed`.
  */
 #define _DEFAULT_SOURCE
@@ -91,7 +91,7 @@ static void name_of(const char *letters, char out[41])
     for (int k = 0; k < 20; k++) sprintf(out + 2 * k, "%02x", hash[k]);
 }
 
-static lot list_lot, image_lot, stash_lot, work_lot, piece_lot, cuts_lot, hash_lot, file_lot;
+static lot list_lot, image_lot, stash_lot, work_lot, result_lot, patch_lot, piece_lot, cuts_lot, hash_lot, file_lot;
 
 /* Digests at every length around the padding, read and written against the pages. */
 static void digests(void)
@@ -118,78 +118,123 @@ static void digests(void)
 }
 
 static char list[4096];
+static uint8_t patch[2 * BLOCK];
+static size_t patch_length, heads[4], records;
+
+static void put_patch_number(uint64_t number)
+{
+    for (int k = 0; k < 8; k++, number >>= 8) patch[patch_length++] = (uint8_t)number;
+}
+
+/* A record of a patch: bytes to add, all of one value, extra bytes of another, and the seek's bits. */
+static void put_record(size_t add, uint8_t added, size_t extra, uint8_t copied, uint64_t seek)
+{
+    heads[records++] = patch_length;
+    patch[patch_length++] = 0x43;
+    patch[patch_length++] = 0x50;
+    put_patch_number(add);
+    put_patch_number(extra);
+    put_patch_number(seek);
+    memset(patch + patch_length, added, add);
+    memset(patch + patch_length + add, copied, extra);
+    patch_length += add + extra;
+}
+
+/* Makes a block s of a block r: from within it, from before it and from past it, and with extra bytes. */
+static void make_patch(void)
+{
+    const uint64_t minus = (uint64_t)1 << 63;
+    patch_length = records = 0;
+    put_record(1000, 1, 96, 's', minus + 1500);
+    put_record(500, 's', 0, 0, 4000);
+    put_record(96, 1, 0, 0, minus + 4096);
+    put_record(2404, 1, 0, 0, minus + 77);
+}
 
 /* A list with every command and form. */
 static size_t make_list(void)
 {
-    char ab[41], h[41], cde[41], ba[41], phq[41];
+    char ab[41], h[41], cde[41], ba[41], phq[41], r[41], s[41];
+    make_patch();
     name_of("AB", ab);
     name_of("H", h);
     name_of("CDE", cde);
     name_of("BA", ba);
     name_of("pHq", phq);
+    name_of("r", r);
+    name_of("s", s);
     return (size_t)snprintf(list, sizeof list,
-        "3\n12\n2\n3\nstash %s 2,0,2\nstash %s 2,7,8\nnew 4,0,1,6,7\nmove %s 2,1,4 3 2,2,5\nmove %s 2,4,6 2 - %s:4,1,2,0,1\n"
-        "move %s 4,7,8,2,4 3 4,0,1,6,7 4,0,1,2,3 %s:2,1,2\nfree %s\nzero 4,1,2,8,8\nerase 2,6,7\nnew 2,5,6\n",
-        ab, h, cde, ba, ab, phq, h, ab);
+        "3\n13\n2\n3\nstash %s 2,0,2\nstash %s 2,7,8\nnew 4,0,1,6,7\nmove %s 2,1,4 3 2,2,5\nmove %s 2,4,6 2 - %s:4,1,2,0,1\n"
+        "move %s 4,7,8,2,4 3 4,0,1,6,7 4,0,1,2,3 %s:2,1,2\nfree %s\nzero 4,1,2,8,8\nerase 2,6,7\nnew 2,5,6\n"
+        "bsdiff 0 %zu %s %s 2,7,8 1 2,5,6\n",
+        ab, h, cde, ba, ab, phq, h, ab, patch_length, r, s);
 }
 
-/* The whole list in pieces of one length, over a stash area as large as it must be and a work area of another length. */
+/* The whole list in pieces of one length, over a stash area as large as it must be and a work and a result area of other lengths. */
 static void whole_runs(size_t length)
 {
-    static uint8_t image[8 * BLOCK], data[3 * BLOCK], stash[3 * BLOCK], work[4 * BLOCK];
+    static uint8_t image[8 * BLOCK], data[3 * BLOCK], stash[3 * BLOCK], work[4 * BLOCK], result[2 * BLOCK];
     fill(data, "pqr");
     size_t pieces[] = {1, 64, 4095, 4096, 4097, 3 * BLOCK};
     for (int behind = 0; behind < 2; behind++) {
-        for (size_t p = 0; p < sizeof pieces / sizeof *pieces; p++) {
+        for (size_t k = 0; k < sizeof pieces / sizeof *pieces; k++) {
             fill(image, "ABCDEFGH");
             fill(stash, "xyz");
             fill(work, "stuv");
+            fill(result, "kl");
             const uint8_t *l = lay(&list_lot, list, length, behind, 1);
             uint8_t *i = lay(&image_lot, image, sizeof image, behind, 0);
             uint8_t *s = lay(&stash_lot, stash, sizeof stash, behind, 0);
             uint8_t *w = lay(&work_lot, work, sizeof work, behind, 0);
-            muongrabi_state state = muongrabi_open(l, length, sizeof image, sizeof stash, sizeof work);
+            uint8_t *r = lay(&result_lot, result, sizeof result, behind, 0);
+            const uint8_t *p = lay(&patch_lot, patch, patch_length, behind, 1);
+            muongrabi_state state = muongrabi_open(l, length, sizeof image, sizeof stash, sizeof work, sizeof result, patch_length);
             muongrabi_answer answer = {.outcome = MUONGRABI_MORE};
             size_t taken = 0;
             int good = 1;
-            for (size_t at = 0; at < sizeof data && answer.outcome == MUONGRABI_MORE; at += pieces[p]) {
-                size_t n = sizeof data - at < pieces[p] ? sizeof data - at : pieces[p];
+            for (size_t at = 0; at < sizeof data && answer.outcome == MUONGRABI_MORE; at += pieces[k]) {
+                size_t n = sizeof data - at < pieces[k] ? sizeof data - at : pieces[k];
                 const uint8_t *piece = lay(&piece_lot, data + at, n, behind, 1);
-                answer = muongrabi_call(l, length, i, sizeof image, s, sizeof stash, w, sizeof work, piece, n, state);
+                answer = muongrabi_call(l, length, i, sizeof image, s, sizeof stash, w, sizeof work, r, sizeof result, p, patch_length,
+                                        piece, n, state);
                 state = answer.state;
                 taken += answer.taken;
                 good &= sound(&answer);
             }
             check(good && answer.outcome == MUONGRABI_DONE && taken == sizeof data, "a run's end");
-            check(holds(i, "p0HqBr0p") && holds(s, "HBH") && holds(w, "pHqv"), "what a run leaves");
-            check(state.count == 1 && state.sizes[0] == 1 && state.at == length && state.line == 15, "the state at the end");
+            check(holds(i, "p0HqBr0s") && holds(s, "HBH") && holds(w, "rHqv") && holds(r, "sl"), "what a run leaves");
+            check(state.count == 1 && state.sizes[0] == 1 && state.at == length && state.line == 16, "the state at the end");
+            check(state.lengths.result == sizeof result && state.lengths.patch == patch_length, "the lengths in a state");
         }
         size_t cuts[] = {0, 1, 4096, 5000, 0, 99999};
         fill(image, "ABCDEFGH");
         fill(stash, "xyz");
         fill(work, "stuv");
+        fill(result, "kl");
         const uint8_t *l = lay(&list_lot, list, length, behind, 1);
         uint8_t *i = lay(&image_lot, image, sizeof image, behind, 0);
         uint8_t *s = lay(&stash_lot, stash, sizeof stash, behind, 0);
         uint8_t *w = lay(&work_lot, work, sizeof work, behind, 0);
+        uint8_t *r = lay(&result_lot, result, sizeof result, behind, 0);
+        const uint8_t *p = lay(&patch_lot, patch, patch_length, behind, 1);
         const uint8_t *d = lay(&piece_lot, data, sizeof data, behind, 1);
         const size_t *c = (const size_t *)(const void *)lay(&cuts_lot, cuts, sizeof cuts, behind, 1);
-        muongrabi_answer answer = muongrabi_run(l, length, i, sizeof image, s, sizeof stash, w, sizeof work, d, sizeof data, c, 6);
+        muongrabi_answer answer = muongrabi_run(l, length, i, sizeof image, s, sizeof stash, w, sizeof work, r, sizeof result,
+                                                p, patch_length, d, sizeof data, c, 6);
         check(answer.outcome == MUONGRABI_DONE && answer.taken == sizeof data, "a run over cuts");
-        check(holds(i, "p0HqBr0p") && holds(s, "HBH") && holds(w, "pHqv"), "what a run over cuts leaves");
+        check(holds(i, "p0HqBr0s") && holds(s, "HBH") && holds(w, "rHqv") && holds(r, "sl"), "what a run over cuts leaves");
     }
 }
 
 /* Every beginning of the list, opened and called from every line: nothing is read past its last byte. */
 static void beginnings(size_t length)
 {
-    static uint8_t image[8 * BLOCK], data[3 * BLOCK], stash[3 * BLOCK], work[4 * BLOCK];
+    static uint8_t image[8 * BLOCK], data[3 * BLOCK], stash[3 * BLOCK], work[4 * BLOCK], result[2 * BLOCK];
     fill(data, "pqr");
     int good = 1;
     for (size_t n = 0; n <= length; n++) {
         const uint8_t *l = lay(&list_lot, list, n, 1, 1);
-        muongrabi_state state = muongrabi_open(l, n, sizeof image, sizeof stash, sizeof work);
+        muongrabi_state state = muongrabi_open(l, n, sizeof image, sizeof stash, sizeof work, sizeof result, patch_length);
         size_t number = state.refusal.number;
         good &= n == length ? number == 0 : only_refused(&state) && (number == 3 || number == 6 || number == 15);
         for (size_t at = 0, line = 1; at <= n; at++) {
@@ -199,17 +244,133 @@ static void beginnings(size_t length)
             memset(&from, 0, sizeof from);
             from.at = at;
             from.line = line;
-            from.lengths = (muongrabi_lengths){n, sizeof image, sizeof stash, sizeof work};
+            from.lengths = (muongrabi_lengths){n, sizeof image, sizeof stash, sizeof work, sizeof result, patch_length};
             fill(image, "ABCDEFGH");
             uint8_t *i = lay(&image_lot, image, sizeof image, 1, 0);
             uint8_t *s = lay(&stash_lot, stash, sizeof stash, 1, 0);
             uint8_t *w = lay(&work_lot, work, sizeof work, 1, 0);
+            uint8_t *r = lay(&result_lot, result, sizeof result, 1, 0);
+            const uint8_t *p = lay(&patch_lot, patch, patch_length, 1, 1);
             const uint8_t *d = lay(&piece_lot, data, sizeof data, 1, 1);
-            muongrabi_answer answer = muongrabi_call(l, n, i, sizeof image, s, sizeof stash, w, sizeof work, d, sizeof data, from);
+            muongrabi_answer answer = muongrabi_call(l, n, i, sizeof image, s, sizeof stash, w, sizeof work, r, sizeof result,
+                                                     p, patch_length, d, sizeof data, from);
             good &= sound(&answer);
         }
     }
     check(good, "every beginning of the list");
+}
+
+static char patch_list[200];
+
+/* A list of one `bsdiff` that makes block 1 of block 0, with so many bytes of the patch data from there on. */
+static size_t make_patch_list(size_t from, size_t bytes)
+{
+    static char r[41], s[41];
+    if (!*r) name_of("r", r);
+    if (!*s) name_of("s", s);
+    return (size_t)snprintf(patch_list, sizeof patch_list, "3\n1\n0\n0\nbsdiff %zu %zu %s %s 2,1,2 1 2,0,1\n", from, bytes, r, s);
+}
+
+/* In a record's head, or a byte beside it; of the bytes between, some. */
+static int tried(size_t at)
+{
+    for (size_t k = 0; k < records; k++)
+        if (at + 2 > heads[k] && at < heads[k] + 28) return 1;
+    return at % 61 == 0 || at + 2 > patch_length;
+}
+
+/* The patch, beginnings of it, and bytes of it altered, against the pages: nothing is read past its end, and a result is written only where
+ * all of it is good. */
+static void patches(void)
+{
+    static uint8_t image[2 * BLOCK], work[BLOCK], result[BLOCK];
+    fill(image, "rq");
+    fill(work, "w");
+    fill(result, "k");
+    make_patch();
+    for (int behind = 0; behind < 2; behind++) {
+        int good = 1;
+        for (size_t n = 0; n <= patch_length; n++) {
+            if (!tried(n)) continue;
+            size_t length = make_patch_list(0, n);
+            const uint8_t *l = lay(&list_lot, patch_list, length, behind, 1);
+            uint8_t *i = lay(&image_lot, image, sizeof image, behind, 0);
+            uint8_t *w = lay(&work_lot, work, sizeof work, behind, 0);
+            uint8_t *r = lay(&result_lot, result, sizeof result, behind, 0);
+            const uint8_t *p = lay(&patch_lot, patch, n, behind, 1);
+            muongrabi_answer answer = muongrabi_run(l, length, i, sizeof image, NULL, 0, w, sizeof work, r, sizeof result, p, n, NULL, 0, NULL, 0);
+            good &= sound(&answer) && holds(w, "r");
+            if (n < patch_length) good &= answer.number == MUONGRABI_REFUSAL_PATCH_MALFORMED && answer.line == 5 && holds(i, "rq") && holds(r, "k");
+            else good &= answer.outcome == MUONGRABI_DONE && holds(i, "rs") && holds(r, "s");
+        }
+        check(good, "beginnings of a patch");
+
+        good = 1;
+        size_t length = make_patch_list(0, patch_length);
+        const uint8_t *l = lay(&list_lot, patch_list, length, behind, 1);
+        for (size_t at = 0; at < patch_length; at++) {
+            static const uint8_t others[] = {0, 1, 0x7f, 0x80, 0xff};
+            if (!tried(at)) continue;
+            for (size_t k = 0; k < sizeof others; k++) {
+                static uint8_t altered[sizeof patch];
+                memcpy(altered, patch, patch_length);
+                altered[at] = others[k];
+                uint8_t *i = lay(&image_lot, image, sizeof image, behind, 0);
+                uint8_t *w = lay(&work_lot, work, sizeof work, behind, 0);
+                uint8_t *r = lay(&result_lot, result, sizeof result, behind, 0);
+                const uint8_t *p = lay(&patch_lot, altered, patch_length, behind, 1);
+                muongrabi_answer answer =
+                    muongrabi_run(l, length, i, sizeof image, NULL, 0, w, sizeof work, r, sizeof result, p, patch_length, NULL, 0, NULL, 0);
+                good &= sound(&answer) && holds(w, "r");
+                /* The last seek may be another. */
+                if (answer.outcome == MUONGRABI_DONE) good &= holds(i, "rs") && holds(r, "s");
+                else if (answer.number == MUONGRABI_REFUSAL_PATCH_MALFORMED) good &= holds(i, "rq") && holds(r, "k");
+                else good &= answer.number == MUONGRABI_REFUSAL_HASH_DIFFERS && holds(i, "rq") && !holds(r, "s") && !holds(r, "k");
+            }
+        }
+        check(good, "bytes of a patch altered");
+
+        /* Offsets and lengths around the patch data's end. */
+        good = 1;
+        for (size_t from = patch_length - 2; from <= patch_length + 1; from++) {
+            for (size_t bytes = 0; bytes <= 4; bytes++) {
+                length = make_patch_list(from, bytes);
+                l = lay(&list_lot, patch_list, length, behind, 1);
+                muongrabi_state state = muongrabi_open(l, length, sizeof image, 0, sizeof work, sizeof result, patch_length);
+                good &= state.refusal.number == (from + bytes > patch_length ? MUONGRABI_REFUSAL_PAST_PATCH : 0u);
+                uint8_t *i = lay(&image_lot, image, sizeof image, behind, 0);
+                uint8_t *w = lay(&work_lot, work, sizeof work, behind, 0);
+                uint8_t *r = lay(&result_lot, result, sizeof result, behind, 0);
+                const uint8_t *p = lay(&patch_lot, patch, patch_length, behind, 1);
+                memset(&state, 0, sizeof state);
+                state.at = 8;
+                state.line = 5;
+                state.lengths = (muongrabi_lengths){length, sizeof image, 0, sizeof work, sizeof result, patch_length};
+                muongrabi_answer answer =
+                    muongrabi_call(l, length, i, sizeof image, NULL, 0, w, sizeof work, r, sizeof result, p, patch_length, NULL, 0, state);
+                good &= answer.number == (from + bytes > patch_length ? MUONGRABI_REFUSAL_PAST_PATCH : MUONGRABI_REFUSAL_PATCH_MALFORMED);
+                good &= holds(i, "rq") && holds(r, "k");
+            }
+        }
+        check(good, "patches around the end of the patch data");
+    }
+    /* Memory of exactly the lengths that are lent, so that a sanitizer or valgrind sees its ends too. */
+    for (size_t n = patch_length - 1; n <= patch_length; n++) {
+        size_t length = make_patch_list(0, n);
+        uint8_t *l = malloc(length), *i = malloc(2 * BLOCK), *w = malloc(BLOCK), *r = malloc(BLOCK), *p = malloc(n);
+        if (!l || !i || !w || !r || !p) exit(2);
+        memcpy(l, patch_list, length);
+        memcpy(i, image, sizeof image);
+        memcpy(p, patch, n);
+        muongrabi_answer answer = muongrabi_run(l, length, i, 2 * BLOCK, NULL, 0, w, BLOCK, r, BLOCK, p, n, NULL, 0, NULL, 0);
+        check(n == patch_length ? answer.outcome == MUONGRABI_DONE && holds(i, "rs") && holds(r, "s") : answer.number == 19 && holds(i, "rq"),
+              "a patch in allocated memory");
+        free(l);
+        free(i);
+        free(w);
+        free(r);
+        free(p);
+    }
 }
 
 /* Areas of no bytes, and states of border values. */
@@ -220,12 +381,14 @@ static void nothing_lent(void)
     lot none = new_lot(0);
     for (int behind = 0; behind < 2; behind++) {
         const uint8_t *l = lay(&list_lot, empty, strlen(empty), behind, 1);
-        muongrabi_state state = muongrabi_open(l, strlen(empty), 0, 0, 0);
-        muongrabi_answer answer = muongrabi_call(l, strlen(empty), none.first, 0, none.first, 0, none.first, 0, none.first, 0, state);
+        muongrabi_state state = muongrabi_open(l, strlen(empty), 0, 0, 0, 0, 0);
+        muongrabi_answer answer = muongrabi_call(l, strlen(empty), none.first, 0, none.first, 0, none.first, 0, none.first, 0, none.first, 0,
+                                                 none.first, 0, state);
         check(answer.outcome == MUONGRABI_DONE && answer.taken == 0, "the empty list with nothing lent");
-        state = muongrabi_open(none.first, 0, 0, 0, 0);
+        state = muongrabi_open(none.first, 0, 0, 0, 0, 0, 0);
         check(state.refusal.number == 3 && state.refusal.line == 1, "no list");
-        answer = muongrabi_run(none.first, 0, none.first, 0, none.first, 0, none.first, 0, none.first, 0, (const size_t *)(const void *)none.first, 0);
+        answer = muongrabi_run(none.first, 0, none.first, 0, none.first, 0, none.first, 0, none.first, 0, none.first, 0,
+                               none.first, 0, (const size_t *)(const void *)none.first, 0);
         check(answer.outcome == MUONGRABI_REFUSED && answer.number == 3 && answer.line == 1 && answer.taken == 0, "a run over no list");
         check(only_refused(&answer.state), "the state of a run over no list");
     }
@@ -237,16 +400,18 @@ static void nothing_lent(void)
     const uint8_t *l = lay(&list_lot, some, strlen(some), 1, 1);
     uint8_t *i = lay(&image_lot, image, BLOCK, 1, 0);
     const uint8_t *d = lay(&piece_lot, "0123456789", 10, 1, 1);
-    muongrabi_state open = muongrabi_open(l, strlen(some), BLOCK, 0, 0);
+    muongrabi_state open = muongrabi_open(l, strlen(some), BLOCK, 0, 0, 0, 0);
     check(open.refusal.number == 0, "a list to disturb");
     for (size_t a = 0; a < many; a++) {
         for (size_t b = 0; b < many; b++) {
-            for (size_t c = 0; c < 6; c++) {
+            for (size_t c = 0; c < 8; c++) {
                 muongrabi_state state = open;
-                size_t *fields[] = {&state.at, &state.line, &state.into, &state.count, &state.sizes[0], &state.sizes[63]};
+                size_t *fields[] = {&state.at, &state.line, &state.into, &state.count, &state.sizes[0], &state.sizes[63],
+                                    &state.lengths.result, &state.lengths.patch};
                 *fields[c] = borders[a];
-                *fields[(c + 1 + a % 5) % 6] = borders[b];
-                muongrabi_answer answer = muongrabi_call(l, strlen(some), i, BLOCK, none.first, 0, none.first, 0, d, 10, state);
+                *fields[(c + 1 + a % 7) % 8] = borders[b];
+                muongrabi_answer answer = muongrabi_call(l, strlen(some), i, BLOCK, none.first, 0, none.first, 0, none.first, 0, none.first, 0,
+                                                         d, 10, state);
                 good &= sound(&answer);
                 if (answer.number == 17) good &= answer.taken == 0 && memcmp(&answer.state, &state, sizeof state) == 0;
             }
@@ -371,38 +536,38 @@ static void null_pointers(void)
     static const char *one = "3\n1\n0\n0\nnew 2,0,1\n";
     static uint8_t image[BLOCK], data[BLOCK];
     uint8_t nothing[20], hash[20];
-    check(muongrabi_abi_1() == MUONGRABI_ABI, "the archive is of this header");
+    check(muongrabi_abi_2() == MUONGRABI_ABI, "the archive is of this header");
     muongrabi_digest((const uint8_t *)"", 0, nothing);
     muongrabi_digest(NULL, 0, hash);
     check(memcmp(hash, nothing, 20) == 0, "digest of null");
     muongrabi_digest(NULL, 99, hash);
     check(memcmp(hash, nothing, 20) == 0, "digest of null with a length");
 
-    muongrabi_state state = muongrabi_open(NULL, 0, 0, 0, 0);
+    muongrabi_state state = muongrabi_open(NULL, 0, 0, 0, 0, 0, 0);
     check(state.refusal.number == MUONGRABI_REFUSAL_HEADER_FORM && state.refusal.line == 1, "a null list");
-    state = muongrabi_open(NULL, 8, 0, 0, 0);
+    state = muongrabi_open(NULL, 8, 0, 0, 0, 0, 0);
     check(state.refusal.number == MUONGRABI_REFUSAL_HEADER_FORM && state.refusal.line == 1, "a null list with a length");
 
     const uint8_t *list = (const uint8_t *)empty;
-    state = muongrabi_open(list, strlen(empty), 0, 0, 0);
-    muongrabi_answer answer = muongrabi_call(list, strlen(empty), NULL, 0, NULL, 0, NULL, 0, NULL, 0, state);
+    state = muongrabi_open(list, strlen(empty), 0, 0, 0, 0, 0);
+    muongrabi_answer answer = muongrabi_call(list, strlen(empty), NULL, 0, NULL, 0, NULL, 0, NULL, 0, NULL, 0, NULL, 0, state);
     check(answer.outcome == MUONGRABI_DONE && answer.taken == 0, "null areas");
-    answer = muongrabi_call(NULL, strlen(empty), NULL, 0, NULL, 0, NULL, 0, NULL, 0, state);
+    answer = muongrabi_call(NULL, strlen(empty), NULL, 0, NULL, 0, NULL, 0, NULL, 0, NULL, 0, NULL, 0, state);
     check(answer.number == MUONGRABI_REFUSAL_STATE_IMPOSSIBLE, "a null list in a call");
-    answer = muongrabi_run(list, strlen(empty), NULL, 0, NULL, 0, NULL, 0, NULL, 0, NULL, 0);
+    answer = muongrabi_run(list, strlen(empty), NULL, 0, NULL, 0, NULL, 0, NULL, 0, NULL, 0, NULL, 0, NULL, 0);
     check(answer.outcome == MUONGRABI_DONE && answer.taken == 0, "a run over null areas");
-    answer = muongrabi_run(list, strlen(empty), NULL, BLOCK, NULL, 1, NULL, 2, NULL, 3, NULL, 4);
+    answer = muongrabi_run(list, strlen(empty), NULL, BLOCK, NULL, 1, NULL, 2, NULL, 3, NULL, 4, NULL, 5, NULL, 6);
     check(answer.outcome == MUONGRABI_DONE && answer.taken == 0, "a run over null areas with lengths");
 
     list = (const uint8_t *)one;
-    state = muongrabi_open(list, strlen(one), BLOCK, 0, 0);
-    answer = muongrabi_call(list, strlen(one), NULL, BLOCK, NULL, 0, NULL, 0, data, BLOCK, state);
+    state = muongrabi_open(list, strlen(one), BLOCK, 0, 0, 0, 0);
+    answer = muongrabi_call(list, strlen(one), NULL, BLOCK, NULL, 0, NULL, 0, NULL, 0, NULL, 0, data, BLOCK, state);
     check(answer.number == MUONGRABI_REFUSAL_STATE_IMPOSSIBLE && answer.taken == 0, "a null image with a length");
-    answer = muongrabi_call(list, strlen(one), image, BLOCK, NULL, 0, NULL, 0, NULL, BLOCK, state);
+    answer = muongrabi_call(list, strlen(one), image, BLOCK, NULL, 0, NULL, 0, NULL, BLOCK, NULL, 9, NULL, BLOCK, state);
     check(answer.outcome == MUONGRABI_MORE && answer.taken == 0, "a null piece with a length");
-    muongrabi_answer (*called)(const uint8_t *, size_t, uint8_t *, size_t, uint8_t *, size_t, uint8_t *, size_t, const uint8_t *, size_t,
-                               muongrabi_state) = muongrabi_call;
-    answer = called(list, strlen(one), image, BLOCK, NULL, 0, NULL, 0, data, BLOCK, answer.state);
+    muongrabi_answer (*called)(const uint8_t *, size_t, uint8_t *, size_t, uint8_t *, size_t, uint8_t *, size_t, uint8_t *, size_t,
+                               const uint8_t *, size_t, const uint8_t *, size_t, muongrabi_state) = muongrabi_call;
+    answer = called(list, strlen(one), image, BLOCK, NULL, 0, NULL, 0, NULL, 0, NULL, 0, data, BLOCK, answer.state);
     check(answer.outcome == MUONGRABI_DONE && answer.taken == BLOCK, "null through a function pointer");
 
     make_sparse_file();
@@ -419,12 +584,13 @@ static void refusal_texts(void)
     const char *other = muongrabi_refusal_text(SIZE_MAX);
     int good = 1;
     for (size_t k = 0; k <= MUONGRABI_REFUSAL_SPARSE_END + 1; k++) {
-        int is_one = k <= MUONGRABI_REFUSAL_STATE_IMPOSSIBLE || (k >= MUONGRABI_REFUSAL_SPARSE_HEADER && k <= MUONGRABI_REFUSAL_SPARSE_END);
+        int is_one = k <= MUONGRABI_REFUSAL_PATCH_MALFORMED || (k >= MUONGRABI_REFUSAL_SPARSE_HEADER && k <= MUONGRABI_REFUSAL_SPARSE_END);
         good &= (strcmp(muongrabi_refusal_text(k), other) != 0) == is_one;
         for (size_t j = 0; is_one && j < k; j++) good &= strcmp(muongrabi_refusal_text(k), muongrabi_refusal_text(j)) != 0;
     }
     check(good, "each refusal has a text of its own, and every other number one in common");
-    check(strstr(muongrabi_refusal_text(MUONGRABI_REFUSAL_UNSUPPORTED), "bsdiff") != NULL, "texts stand at their numbers");
+    check(strstr(muongrabi_refusal_text(MUONGRABI_REFUSAL_UNSUPPORTED), "imgdiff") != NULL, "texts stand at their numbers");
+    check(strstr(muongrabi_refusal_text(MUONGRABI_REFUSAL_PATCH_MALFORMED), "malformed") != NULL, "texts stand at their numbers");
     check(strstr(muongrabi_refusal_text(MUONGRABI_REFUSAL_HASH_DIFFERS), "hash") != NULL, "texts stand at their numbers");
     check(strstr(muongrabi_refusal_text(MUONGRABI_REFUSAL_SPARSE_CHECKSUM), "0xCAC4") != NULL, "texts stand at their numbers");
 }
@@ -435,6 +601,8 @@ int main(void)
     image_lot = new_lot(8);
     stash_lot = new_lot(3);
     work_lot = new_lot(4);
+    result_lot = new_lot(2);
+    patch_lot = new_lot(2);
     piece_lot = new_lot(3);
     cuts_lot = new_lot(1);
     hash_lot = new_lot(1);
@@ -443,6 +611,7 @@ int main(void)
     size_t length = make_list();
     whole_runs(length);
     beginnings(length);
+    patches();
     nothing_lent();
     sparse_files();
     sparse_files_in_allocated_memory();

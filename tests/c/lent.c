@@ -13,8 +13,8 @@
 #undef muongrabi_run
 #undef muongrabi_sparse_load
 
-static const void *pointers[6];
-static size_t lengths[6], line;
+static const void *pointers[8];
+static size_t lengths[8], line;
 static int asked;
 
 static void note(int k, const void *pointer, size_t length)
@@ -23,7 +23,7 @@ static void note(int k, const void *pointer, size_t length)
     lengths[k] = length;
 }
 
-size_t muongrabi_abi_1(void)
+size_t muongrabi_abi_2(void)
 {
     asked++;
     return MUONGRABI_ABI;
@@ -35,7 +35,8 @@ void muongrabi_digest(const uint8_t *bytes, size_t bytes_length, uint8_t out[20]
     note(1, out, 20);
 }
 
-muongrabi_state muongrabi_open(const uint8_t *list, size_t list_length, size_t image_length, size_t stash_length, size_t work_length)
+muongrabi_state muongrabi_open(const uint8_t *list, size_t list_length, size_t image_length, size_t stash_length, size_t work_length,
+                               size_t result_length, size_t patch_length)
 {
     muongrabi_state state;
     memset(&state, 0, sizeof state);
@@ -43,12 +44,15 @@ muongrabi_state muongrabi_open(const uint8_t *list, size_t list_length, size_t i
     note(1, NULL, image_length);
     note(2, NULL, stash_length);
     note(3, NULL, work_length);
+    note(4, NULL, result_length);
+    note(5, NULL, patch_length);
     state.line = 7;
     return state;
 }
 
 muongrabi_answer muongrabi_call(const uint8_t *list, size_t list_length, uint8_t *image, size_t image_length,
                                 uint8_t *stash, size_t stash_length, uint8_t *work, size_t work_length,
+                                uint8_t *result, size_t result_length, const uint8_t *patch, size_t patch_length,
                                 const uint8_t *piece, size_t piece_length, muongrabi_state state)
 {
     muongrabi_answer answer;
@@ -57,7 +61,9 @@ muongrabi_answer muongrabi_call(const uint8_t *list, size_t list_length, uint8_t
     note(1, image, image_length);
     note(2, stash, stash_length);
     note(3, work, work_length);
-    note(4, piece, piece_length);
+    note(4, result, result_length);
+    note(5, patch, patch_length);
+    note(6, piece, piece_length);
     line = state.line;
     answer.taken = 8;
     return answer;
@@ -65,6 +71,7 @@ muongrabi_answer muongrabi_call(const uint8_t *list, size_t list_length, uint8_t
 
 muongrabi_answer muongrabi_run(const uint8_t *list, size_t list_length, uint8_t *image, size_t image_length,
                                uint8_t *stash, size_t stash_length, uint8_t *work, size_t work_length,
+                               uint8_t *result, size_t result_length, const uint8_t *patch, size_t patch_length,
                                const uint8_t *data, size_t data_length, const size_t *cuts, size_t cuts_length)
 {
     muongrabi_answer answer;
@@ -73,8 +80,10 @@ muongrabi_answer muongrabi_run(const uint8_t *list, size_t list_length, uint8_t 
     note(1, image, image_length);
     note(2, stash, stash_length);
     note(3, work, work_length);
-    note(4, data, data_length);
-    note(5, cuts, cuts_length);
+    note(4, result, result_length);
+    note(5, patch, patch_length);
+    note(6, data, data_length);
+    note(7, cuts, cuts_length);
     answer.taken = 9;
     return answer;
 }
@@ -106,33 +115,37 @@ static int handed_on(int k, const void *given)
 
 int main(void)
 {
-    static uint8_t bytes[5];
+    static uint8_t bytes[7];
     static const size_t numbers[1] = {0};
     muongrabi_state state;
     memset(&state, 0, sizeof state);
     state.line = 77;
     /* null is the parameter that is null, -1 none. */
-    for (int null = -1; null < 6; null++) {
-        uint8_t *given[5];
-        for (int k = 0; k < 5; k++) given[k] = k == null ? NULL : bytes + k;
-        const size_t *cuts = null == 5 ? NULL : numbers;
+    for (int null = -1; null < 8; null++) {
+        uint8_t *given[7];
+        for (int k = 0; k < 7; k++) given[k] = k == null ? NULL : bytes + k;
+        const size_t *cuts = null == 7 ? NULL : numbers;
 
         asked = 0;
         line = 0;
-        muongrabi_answer answer = muongrabi_call_lent(given[0], 10, given[1], 11, given[2], 12, given[3], 13, given[4], 14, state);
+        muongrabi_answer answer = muongrabi_call_lent(given[0], 10, given[1], 11, given[2], 12, given[3], 13,
+                                                      given[4], 14, given[5], 15, given[6], 16, state);
         int good = asked == 1 && line == 77 && answer.taken == 8;
-        for (int k = 0; k < 5; k++) good &= handed_on(k, given[k]);
+        for (int k = 0; k < 7; k++) good &= handed_on(k, given[k]);
         check(good, "call", null);
 
         asked = 0;
-        answer = muongrabi_run_lent(given[0], 10, given[1], 11, given[2], 12, given[3], 13, given[4], 14, cuts, 15);
+        answer = muongrabi_run_lent(given[0], 10, given[1], 11, given[2], 12, given[3], 13,
+                                    given[4], 14, given[5], 15, given[6], 16, cuts, 17);
         good = asked == 1 && answer.taken == 9;
-        for (int k = 0; k < 5; k++) good &= handed_on(k, given[k]);
-        check(good && handed_on(5, cuts), "run", null);
+        for (int k = 0; k < 7; k++) good &= handed_on(k, given[k]);
+        check(good && handed_on(7, cuts), "run", null);
 
         asked = 0;
-        state = muongrabi_open_lent(given[0], 10, 11, 12, 13);
-        check(asked == 1 && state.line == 7 && handed_on(0, given[0]) && lengths[1] == 11 && lengths[2] == 12 && lengths[3] == 13, "open", null);
+        state = muongrabi_open_lent(given[0], 10, 11, 12, 13, 14, 15);
+        good = asked == 1 && state.line == 7 && handed_on(0, given[0]);
+        for (int k = 1; k < 6; k++) good &= lengths[k] == (size_t)(10 + k);
+        check(good, "open", null);
         state.line = 77;
 
         asked = 0;

@@ -1,15 +1,18 @@
 //! How often each thing occurred in a series of cases.
 
+mod patch;
 mod sparse;
 
 use crate::generate::line_starts;
 use crate::hex;
-use reference::{plain, Answer, Lengths, Outcome, State, BLOCK, MOST_STASHES};
+use patch::{Line, FAULTS, PATCHES};
+use reference::{digest, plain, Answer, Areas, Lengths, Outcome, Rooms, State, BLOCK, MOST_STASHES};
 pub use sparse::SparseCoverage;
 use std::fmt::Write;
 
 /// Lines that ran, by what they are.
-pub const LINES: [&str; 8] = ["zero", "erase", "new", "stash", "free", "move one", "move two", "move three"];
+pub const LINES: [&str; 11] =
+    ["zero", "erase", "new", "stash", "free", "move one", "move two", "move three", "bsdiff one", "bsdiff two", "bsdiff three"];
 
 /// Kinds of lines that ran, each easy to miss.
 pub const KINDS: [&str; 10] = [
@@ -25,10 +28,18 @@ pub const KINDS: [&str; 10] = [
     "younger stashes moved down",
 ];
 
-/// What makes a state impossible, in document 01's order; the first that applies is counted. The second to the sixth: what the areas
+/// What 9 is given for; the first that applies is counted.
+pub const NINES: [&str; 3] = ["N over the work area", "S over the work area", "a target over the result area"];
+
+/// Whose hash differs.
+pub const SIXTEENS: [&str; 3] = ["a move or a stash", "a patch's source", "a patch's result"];
+
+/// What makes a state impossible, in document 01's order; the first that applies is counted. The third to the seventh: what the areas
 /// and the header would now give.
-pub const CAUSES: [&str; 12] = [
-    "a length",
+pub const CAUSES: [&str; 14] = [
+    "the length of list or area",
+    "the length of the result area alone",
+    "the length of the patch data alone",
     "areas, 1",
     "list length, 2",
     "header, 3",
@@ -43,18 +54,26 @@ pub const CAUSES: [&str; 12] = [
 ];
 
 /// The cause that takes a list of over 4 MiB: too slow for every run, and tried by a test of its own.
-const LONG_LIST: usize = 2;
+const LONG_LIST: usize = 4;
 
 #[derive(Default, Clone)]
 pub struct Coverage {
     /// Openings by refusal number, 0 for accepted.
-    pub opened: [u64; 18],
+    pub opened: [u64; 20],
     /// Calls by outcome.
     pub done: u64,
     pub more: u64,
     pub refused: u64,
     /// Refused calls by number where the state held none before; the last for any other number.
-    pub numbers: [u64; 19],
+    pub numbers: [u64; 21],
+    /// 9 by what it is given for, of openings and of calls.
+    pub nines: [u64; NINES.len()],
+    /// Calls refused with 16, by whose hash.
+    pub sixteens: [u64; SIXTEENS.len()],
+    /// Calls refused with 19, by what is malformed first.
+    pub faults: [u64; FAULTS.len()],
+    /// Patches that ran, by what they have.
+    pub patches: [u64; PATCHES.len()],
     /// Calls refused with 17, by cause.
     pub causes: [u64; CAUSES.len()],
     /// Calls that repeated a refusal.
@@ -77,7 +96,7 @@ impl Coverage {
     pub fn report(&self) -> String {
         let mut out = String::new();
         let _ = writeln!(out, "number     opening        call");
-        for number in 1..=17 {
+        for number in 1..=19 {
             let _ = writeln!(out, "{number:>6} {:>11} {:>11}", self.opened[number], self.numbers[number]);
         }
         let _ = writeln!(out, "accepted openings {}, refused {}", self.opened[0], self.opened[1..].iter().sum::<u64>());
@@ -85,11 +104,15 @@ impl Coverage {
         let _ = writeln!(
             out,
             "of these: refusals repeated {}, other numbers {}, after done {}, empty pieces {}, stopped within a block {}",
-            self.repeated, self.numbers[18], self.after_done, self.empty, self.within
+            self.repeated, self.numbers[20], self.after_done, self.empty, self.within
         );
+        let _ = writeln!(out, "9 for: {}", counted(&NINES, &self.nines));
+        let _ = writeln!(out, "16 of: {}", counted(&SIXTEENS, &self.sixteens));
         let _ = writeln!(out, "17 by cause: {}", counted(&CAUSES, &self.causes));
+        let _ = writeln!(out, "19 for: {}", counted(&FAULTS, &self.faults));
         let _ = writeln!(out, "lines that ran: {}", counted(&LINES, &self.lines));
         let _ = writeln!(out, "of these: {}", counted(&KINDS, &self.kinds));
+        let _ = writeln!(out, "patches that ran: {}", counted(&PATCHES, &self.patches));
         let _ = writeln!(out, "sequences held to the model {}, runs over cuts {}, digests {}", self.sequences, self.runs, self.digests);
         out
     }
@@ -102,8 +125,12 @@ impl Coverage {
                 names.push(name)
             }
         };
-        (0..=15).for_each(|k| note(format!("an opening with {k}"), self.opened[k]));
-        (6..=14).chain(16..=17).for_each(|k| note(format!("a call with {k}"), self.numbers[k]));
+        (0..=15).chain([18]).for_each(|k| note(format!("an opening with {k}"), self.opened[k]));
+        (6..=14).chain(16..=19).for_each(|k| note(format!("a call with {k}"), self.numbers[k]));
+        NINES.iter().zip(self.nines).for_each(|(name, n)| note(format!("9 for {name}"), n));
+        SIXTEENS.iter().zip(self.sixteens).for_each(|(name, n)| note(format!("16 of {name}"), n));
+        FAULTS.iter().zip(self.faults).for_each(|(name, n)| note(format!("19 for {name}"), n));
+        PATCHES.iter().zip(self.patches).for_each(|(name, n)| note(format!("a patch with {name}"), n));
         CAUSES.iter().zip(self.causes).enumerate().filter(|(k, _)| *k != LONG_LIST).for_each(|(_, (name, n))| note(format!("17 by {name}"), n));
         LINES.iter().zip(self.lines).for_each(|(name, n)| note(name.to_string(), n));
         KINDS.iter().zip(self.kinds).for_each(|(name, n)| note(name.to_string(), n));
@@ -123,11 +150,16 @@ impl Coverage {
         names
     }
 
-    pub fn open(&mut self, state: &State) {
-        self.opened[state.refusal.number.min(17)] += 1;
+    pub fn open(&mut self, list: &[u8], rooms: Rooms, state: &State) {
+        self.opened[state.refusal.number.min(19)] += 1;
+        if state.refusal.number == 9 {
+            let line = list.split_inclusive(|c| *c == b'\n').nth(state.refusal.line - 1).unwrap_or(b"");
+            self.nines[nine(line, &Lengths::of(list, rooms))] += 1;
+        }
     }
 
-    pub fn call(&mut self, list: &[u8], lengths: &Lengths, piece: &[u8], before: &State, answer: &Answer) {
+    /// What a call gave, with all that it was lent as it left it.
+    pub fn call(&mut self, list: &[u8], areas: &Areas, piece: &[u8], before: &State, answer: &Answer) {
         match answer.outcome {
             Outcome::Done => self.done += 1,
             Outcome::More => self.more += 1,
@@ -139,18 +171,37 @@ impl Coverage {
             return;
         }
         if let Outcome::Refused(refusal) = answer.outcome {
-            self.numbers[refusal.number.min(18)] += 1;
+            self.numbers[refusal.number.min(20)] += 1;
         }
+        let lengths = Lengths::of(list, areas.rooms());
         if answer.outcome.number() == 17 {
-            self.causes[cause(list, lengths, before)] += 1;
-        } else {
-            self.within += (answer.outcome == Outcome::More && answer.state.into % BLOCK != 0) as u64;
-            self.ran(&list[before.at..answer.state.at], before);
+            self.causes[cause(list, &lengths, before)] += 1;
+            return;
         }
+        let line = list[answer.state.at..].split_inclusive(|c| *c == b'\n').next().unwrap_or(b"");
+        match answer.outcome.number() {
+            9 => self.nines[nine(line, &lengths)] += 1,
+            16 => {
+                let whose = match Line::of(line) {
+                    None => 0,
+                    Some(of) if hex(&digest(&areas.work[..of.n * BLOCK])).as_bytes() != of.hash => 1,
+                    Some(_) => 2,
+                };
+                self.sixteens[whose] += 1;
+            }
+            19 => {
+                if let Some(fault) = Line::of(line).and_then(|of| of.fault(areas.patch)) {
+                    self.faults[fault] += 1;
+                }
+            }
+            _ => {}
+        }
+        self.within += (answer.outcome == Outcome::More && answer.state.into % BLOCK != 0) as u64;
+        self.ran(&list[before.at..answer.state.at], before, areas.patch);
     }
 
     /// The lines that a call finished, from a possible state on.
-    fn ran(&mut self, lines: &[u8], from: &State) {
+    fn ran(&mut self, lines: &[u8], from: &State, patch: &[u8]) {
         let mut held: Vec<(Vec<u8>, u64)> = (0..from.count).map(|k| (hash_of(from, k), from.sizes[k] as u64)).collect();
         let mut freed: Vec<Vec<u8>> = Vec::new();
         for line in lines.split(|c| *c == b'\n') {
@@ -176,18 +227,23 @@ impl Coverage {
                     freed.push(gone.0);
                     4
                 }
-                [b"move", _, _, _, ref source @ ..] => {
+                [b"move", _, _, _, ref source @ ..] | [b"bsdiff", _, _, _, _, _, _, ref source @ ..] => {
                     let parts: Vec<&[u8]> = source.iter().copied().filter(|field| field.contains(&b':')).map(|field| &field[..40]).collect();
                     kinds[0] = parts.len() > 1;
                     kinds[1] = (1..parts.len()).any(|k| parts[..k].contains(&parts[k]));
                     kinds[2] = parts.iter().any(|name| behind(&held, name));
                     kinds[3] = sets.iter().rev().take(parts.len()).any(|set| parted(set));
                     kinds[4] = source[0] != b"-" && meet(&sets[0], &sets[1]);
-                    match (source[0], source.len()) {
+                    let patched = Line::of(line);
+                    if let Some(of) = &patched {
+                        self.patches.iter_mut().zip(of.has(patch)).for_each(|(n, has)| *n += has as u64);
+                    }
+                    let form = match (source[0], source.len()) {
                         (_, 1) => 5,
                         (b"-", _) => 6,
                         _ => 7,
-                    }
+                    };
+                    form + if patched.is_some() { 3 } else { 0 }
                 }
                 _ => continue,
             };
@@ -237,35 +293,58 @@ fn behind(held: &[(Vec<u8>, u64)], name: &[u8]) -> bool {
     }
 }
 
+/// What a line is refused with 9 for, as an index of NINES.
+fn nine(line: &[u8], lengths: &Lengths) -> usize {
+    let fields: Vec<&[u8]> = line.split(|c| matches!(c, b' ' | b'\n')).collect();
+    let work = (lengths.work / BLOCK) as u64;
+    let (n, source) = match fields[..] {
+        [b"stash", _, source, ..] => (b"0" as &[u8], source),
+        [b"move", _, _, n, source, ..] | [b"bsdiff", _, _, _, _, _, n, source, ..] => (n, source),
+        _ => (b"0" as &[u8], b"" as &[u8]),
+    };
+    let n: u64 = std::str::from_utf8(n).ok().and_then(|digits| digits.parse().ok()).unwrap_or(0);
+    if n > work {
+        return 0;
+    }
+    match ranges(source) {
+        Some(set) if blocks(&set) > work => 1,
+        _ => 2,
+    }
+}
+
 /// Why the state is impossible, as an index of CAUSES.
 fn cause(list: &[u8], lengths: &Lengths, state: &State) -> usize {
     if *lengths != state.lengths {
-        return 0;
+        return match state.lengths {
+            other if (Lengths { result: other.result, ..*lengths }) == other => 1,
+            other if (Lengths { patch: other.patch, ..*lengths }) == other => 2,
+            _ => 0,
+        };
     }
     let header = match plain::header(list, lengths) {
         Ok(header) => header,
-        Err(refusal) => return refusal.number,
+        Err(refusal) => return refusal.number + 2,
     };
     let starts = line_starts(list);
-    let Ok(before) = starts.binary_search(&state.at) else { return 6 };
+    let Ok(before) = starts.binary_search(&state.at) else { return 8 };
     if state.at < header.after {
-        return 6;
+        return 8;
     }
     if state.line != before + 1 {
-        return 7;
+        return 9;
     }
     if state.count > MOST_STASHES {
-        return 8;
+        return 10;
     }
     let mut names: Vec<Vec<u8>> = (0..state.count).map(|k| hash_of(state, k)).collect();
     names.sort();
     names.dedup();
     if names.len() < state.count {
-        return 9;
+        return 11;
     }
     let total: u128 = state.sizes[..state.count].iter().map(|size| *size as u128).sum();
     if total > header.blocks as u128 {
-        return 10;
+        return 12;
     }
-    11
+    13
 }

@@ -10,14 +10,14 @@ pub mod record;
 
 pub use hex::hex;
 pub use library::Library;
-use reference::{model, plain, Answer, Hash, State};
+use reference::{model, plain, Answer, Areas, Hash, Rooms, State};
 
 /// One implementation of the rules, on the reference's types.
 pub trait Implementation {
     fn digest(&self, bytes: &[u8]) -> Hash;
-    fn open(&self, list: &[u8], image: usize, stash: usize, work: usize) -> State;
-    fn call(&self, list: &[u8], image: &mut [u8], stash: &mut [u8], work: &mut [u8], piece: &[u8], state: State) -> Answer;
-    fn run(&self, list: &[u8], image: &mut [u8], stash: &mut [u8], work: &mut [u8], data: &[u8], cuts: &[usize]) -> Answer;
+    fn open(&self, list: &[u8], rooms: Rooms) -> State;
+    fn call(&self, list: &[u8], areas: Areas, piece: &[u8], state: State) -> Answer;
+    fn run(&self, list: &[u8], areas: Areas, data: &[u8], cuts: &[usize]) -> Answer;
     /// Nothing, or the number that the file is refused with.
     fn load_sparse(&self, file: &[u8], image: &mut [u8]) -> Result<(), usize>;
 }
@@ -29,14 +29,14 @@ impl Implementation for Plain {
     fn digest(&self, bytes: &[u8]) -> Hash {
         reference::digest(bytes)
     }
-    fn open(&self, list: &[u8], image: usize, stash: usize, work: usize) -> State {
-        plain::open(list, image, stash, work)
+    fn open(&self, list: &[u8], rooms: Rooms) -> State {
+        plain::open(list, rooms)
     }
-    fn call(&self, list: &[u8], image: &mut [u8], stash: &mut [u8], work: &mut [u8], piece: &[u8], state: State) -> Answer {
-        plain::call(list, image, stash, work, piece, state)
+    fn call(&self, list: &[u8], areas: Areas, piece: &[u8], state: State) -> Answer {
+        plain::call(list, areas, piece, state)
     }
-    fn run(&self, list: &[u8], image: &mut [u8], stash: &mut [u8], work: &mut [u8], data: &[u8], cuts: &[usize]) -> Answer {
-        plain::run(list, image, stash, work, data, cuts)
+    fn run(&self, list: &[u8], areas: Areas, data: &[u8], cuts: &[usize]) -> Answer {
+        plain::run(list, areas, data, cuts)
     }
     fn load_sparse(&self, file: &[u8], image: &mut [u8]) -> Result<(), usize> {
         plain::load_sparse(file, image)
@@ -50,14 +50,15 @@ impl Implementation for Model {
     fn digest(&self, bytes: &[u8]) -> Hash {
         reference::digest(bytes)
     }
-    fn open(&self, list: &[u8], image: usize, stash: usize, work: usize) -> State {
-        model::open(list, image, stash, work)
+    fn open(&self, list: &[u8], rooms: Rooms) -> State {
+        model::open(list, rooms)
     }
-    fn call(&self, list: &[u8], image: &mut [u8], stash: &mut [u8], work: &mut [u8], piece: &[u8], state: State) -> Answer {
-        model::call(list, image, stash, work, piece, state)
+    fn call(&self, list: &[u8], areas: Areas, piece: &[u8], state: State) -> Answer {
+        model::call(list, areas, piece, state)
     }
-    fn run(&self, list: &[u8], image: &mut [u8], stash: &mut [u8], work: &mut [u8], data: &[u8], _cuts: &[usize]) -> Answer {
-        model::call(list, image, stash, work, data, model::open(list, image.len(), stash.len(), work.len()))
+    fn run(&self, list: &[u8], areas: Areas, data: &[u8], _cuts: &[usize]) -> Answer {
+        let opened = model::open(list, areas.rooms());
+        model::call(list, areas, data, opened)
     }
     fn load_sparse(&self, file: &[u8], image: &mut [u8]) -> Result<(), usize> {
         model::load_sparse(file, image)

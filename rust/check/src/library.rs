@@ -1,8 +1,8 @@
 //! The proved library as an implementation. Each call converts its state to the library's form and back, so nothing is timed here.
 
 use crate::Implementation;
-use muongrabi::{Areas, Called, Fields, Stash};
-use reference::{Answer, Hash, Lengths, Outcome, Refusal, State, MOST_STASHES};
+use muongrabi::{Called, Fields, Stash};
+use reference::{Answer, Areas, Hash, Lengths, Outcome, Refusal, Rooms, State, MOST_STASHES};
 use std::array::from_fn;
 
 /// The proved library.
@@ -14,21 +14,21 @@ impl Implementation for Library {
     }
 
     /// Of a refused opening the crate hands out the refusal alone; that its state is zero otherwise is seen through `run`.
-    fn open(&self, list: &[u8], image: usize, stash: usize, work: usize) -> State {
-        match muongrabi::open(list, muongrabi::Lengths { image, stash, work }) {
+    fn open(&self, list: &[u8], rooms: Rooms) -> State {
+        match muongrabi::open(list, lengths_of(rooms)) {
             Ok(state) => state_of(&state),
             Err(refused) => State { refusal: refusal_of(refused), ..State::ZERO },
         }
     }
 
-    fn call(&self, list: &[u8], image: &mut [u8], stash: &mut [u8], work: &mut [u8], piece: &[u8], state: State) -> Answer {
+    fn call(&self, list: &[u8], areas: Areas, piece: &[u8], state: State) -> Answer {
         let mut state = library_state(&state);
-        let called = muongrabi::call(list, Areas { image, stash, work }, piece, &mut state);
+        let called = muongrabi::call(list, areas_of(areas), piece, &mut state);
         answer_of(called, &state)
     }
 
-    fn run(&self, list: &[u8], image: &mut [u8], stash: &mut [u8], work: &mut [u8], data: &[u8], cuts: &[usize]) -> Answer {
-        let (called, state) = muongrabi::run(list, Areas { image, stash, work }, data, cuts);
+    fn run(&self, list: &[u8], areas: Areas, data: &[u8], cuts: &[usize]) -> Answer {
+        let (called, state) = muongrabi::run(list, areas_of(areas), data, cuts);
         answer_of(called, &state)
     }
 
@@ -37,9 +37,21 @@ impl Implementation for Library {
     }
 }
 
+/// Lengths as the library's crate has them.
+fn lengths_of(rooms: Rooms) -> muongrabi::Lengths {
+    let Rooms { image, stash, work, result, patch } = rooms;
+    muongrabi::Lengths { image, stash, work, result, patch }
+}
+
+fn areas_of(areas: Areas) -> muongrabi::Areas {
+    let Areas { image, stash, work, result, patch } = areas;
+    muongrabi::Areas { image, stash, work, result, patch }
+}
+
 /// Every field, those past the count too, since whole states are compared.
 fn library_state(state: &State) -> muongrabi::State {
     let State { hashes, sizes, count, line, at, into, refusal, lengths } = *state;
+    let Lengths { list, image, stash, work, result, patch } = lengths;
     muongrabi::State::from(&Fields {
         stashes: from_fn(|k| Stash { hash: from_fn(|j| hashes[20 * k + j]), blocks: sizes[k] }),
         count,
@@ -47,8 +59,8 @@ fn library_state(state: &State) -> muongrabi::State {
         at,
         into,
         refusal: muongrabi::Refusal::new(refusal.number, refusal.line),
-        list: lengths.list,
-        lengths: muongrabi::Lengths { image: lengths.image, stash: lengths.stash, work: lengths.work },
+        list,
+        lengths: muongrabi::Lengths { image, stash, work, result, patch },
     })
 }
 
@@ -59,7 +71,8 @@ fn state_of(state: &muongrabi::State) -> State {
     for (hash, stash) in hashes.chunks_exact_mut(20).zip(&stashes) {
         hash.copy_from_slice(&stash.hash);
     }
-    let lengths = Lengths { list, image: lengths.image, stash: lengths.stash, work: lengths.work };
+    let muongrabi::Lengths { image, stash, work, result, patch } = lengths;
+    let lengths = Lengths { list, image, stash, work, result, patch };
     State { hashes, sizes: stashes.map(|stash| stash.blocks), count, line, at, into, refusal: refusal_of(refusal), lengths }
 }
 

@@ -70,7 +70,8 @@ impl Record {
     /// A state, zero past its stashes.
     pub fn state(&self, key: &str) -> Read<State> {
         let of = |name: &str| self.number(&format!("{key}.{name}"));
-        let lengths = Lengths { list: of("list_len")?, image: of("image_len")?, stash: of("stash_len")?, work: of("work_len")? };
+        let (list, image, stash, work) = (of("list_len")?, of("image_len")?, of("stash_len")?, of("work_len")?);
+        let lengths = Lengths { list, image, stash, work, result: of("result_len")?, patch: of("patch_len")? };
         let mut state = State { at: of("pos")?, line: of("line")?, into: of("into")?, lengths, ..State::ZERO };
         for stash in self.row(&format!("{key}.stashes"))? {
             let k = state.count;

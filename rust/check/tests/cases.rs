@@ -3,7 +3,7 @@
 use check::compare::{Checker, Series, SparseChecker};
 use check::generate::{disturb, Rng};
 use check::{Library, Model};
-use reference::{plain, State, BLOCK};
+use reference::{plain, Areas, Rooms, State, BLOCK};
 
 fn seeded_cases(checker: &mut dyn Series) {
     for index in 0..5_000 {
@@ -35,17 +35,20 @@ fn shapeless_bytes() {
     let mut image = vec![1; 2 * BLOCK];
     let mut stash = vec![2; BLOCK];
     let mut work = vec![3; BLOCK];
+    let mut result = vec![4; BLOCK];
+    let patch = vec![5; 100];
+    let mut areas = Areas { image: &mut image, stash: &mut stash, work: &mut work, result: &mut result, patch: &patch };
     for _ in 0..20_000 {
         let mut list = if rng.percent(80) { b"3\n0\n1\n1\n".to_vec() } else { Vec::new() };
-        let alphabet: &[u8] = rng.pick(&[&b"0123456789,\n"[..], b"zero newmvstahfi 0123,:-\n", b"\0\xff\n 2,"]);
+        let alphabet: &[u8] = rng.pick(&[&b"0123456789,\n"[..], b"zero newmvstahfi 0123,:-\n", b"bsdif 02,a\n", b"\0\xff\n 2,"]);
         for _ in 0..rng.below(60) {
             list.push(rng.pick(alphabet));
         }
-        let mut state = plain::open(&list, image.len(), stash.len(), work.len());
+        let mut state = plain::open(&list, areas.rooms());
         for _ in 0..rng.below(4) {
             disturb(&mut rng, &mut state, &list);
         }
-        plain::call(&list, &mut image, &mut stash, &mut work, b"abc", state);
+        plain::call(&list, areas.reborrow(), b"abc", state);
     }
 }
 
@@ -54,15 +57,16 @@ fn lengths_that_do_not_fit_the_state() {
     // Every combination of border values in position, line, count and bytes.
     let list = b"3\n1\n1\n1\nnew 2,0,1\n";
     let borders = [0, 1, 4, 5, 6, 7, 8, 18, 19, 64, 65, 4_095, 4_096, 1 << 32, 1 << 63, usize::MAX];
-    let opened = plain::open(list, BLOCK, BLOCK, BLOCK);
+    let opened = plain::open(list, Rooms { image: BLOCK, stash: BLOCK, work: BLOCK, result: 0, patch: 0 });
     let (mut image, mut stash, mut work) = (vec![1; BLOCK], vec![2; BLOCK], vec![3; BLOCK]);
+    let mut areas = Areas { image: &mut image, stash: &mut stash, work: &mut work, result: &mut [], patch: &[] };
     for at in borders {
         for line in borders {
             for count in borders {
                 for into in borders {
                     let mut state = State { at, line, count, into, ..opened };
                     state.sizes = [count; 64];
-                    let answer = plain::call(list, &mut image, &mut stash, &mut work, b"", state);
+                    let answer = plain::call(list, areas.reborrow(), b"", state);
                     let fits = (at, line) == (8, 5) || (at, line) == (18, 6);
                     let held = count == 0 || count == 1;
                     let inside = into == 0 || (at == 8 && into < BLOCK);

@@ -5,7 +5,7 @@ mod common;
 use check::hex;
 use common::*;
 use reference::Outcome::{Done, More};
-use reference::{Answer, Refusal, State, BLOCK};
+use reference::{Answer, Refusal, Rooms, State, BLOCK};
 
 /// What an opening is refused with, the same on all.
 fn refusal(list: &str) -> (usize, usize) {
@@ -16,7 +16,7 @@ fn refusal(list: &str) -> (usize, usize) {
         if state.refusal.number != 0 {
             assert_eq!(state, State { refusal: state.refusal, ..State::ZERO }, "{list}");
             // A run ends with that state, as the implementation itself gives it.
-            let answer = on.run(&lent.list, &mut lent.image, &mut lent.stash, &mut lent.work, b"", &[]);
+            let answer = lent.run(on, b"", &[]);
             assert_eq!(answer, Answer { state, outcome: refused(state.refusal.number, state.refusal.line), taken: 0 }, "{list}");
         }
         got.push((state.refusal.number, state.refusal.line));
@@ -49,29 +49,29 @@ fn digests() {
 #[test]
 fn samples() {
     // 1 to 3: what a set names.
-    assert_eq!(after("3\n2\n0\n0\nzero 2,3,5\n", b"").0, "ABC00FGH");
+    assert_eq!(after("3\n2\n0\n0\nzero 2,3,5\n", b"", b"").0[0], "ABC00FGH");
     let list = format!("3\n0\n1\n3\nstash {} 4,6,7,1,3\n", name("GBC"));
-    assert_eq!(after(&list, b"").1, "GBC");
+    assert_eq!(after(&list, b"", b"").0[1], "GBC");
     assert_eq!(refusal("3\n7\n0\n0\nzero 6,247114,247116,247150,247155,247156,247156\n"), (8, 5));
     // 4: ill formed.
     for set in ["2,5,3", "3,1,2,3", "0", "4,1,2", "2,01,2"] {
         assert_eq!(refusal(&format!("3\n0\n0\n0\nzero {set}\n")), (6, 5), "{set}");
     }
     // 5 and 6.
-    assert_eq!(after("3\n1\n0\n0\nzero 2,7,8\n", b"").0, "ABCDEFG0");
+    assert_eq!(after("3\n1\n0\n0\nzero 2,7,8\n", b"", b"").0[0], "ABCDEFG0");
     assert_eq!(refusal("3\n2\n0\n0\nzero 2,7,9\n"), (8, 5));
-    assert_eq!(after("3\n0\n0\n0\nzero 2,8,8\n", b"").0, "ABCDEFGH");
+    assert_eq!(after("3\n0\n0\n0\nzero 2,8,8\n", b"", b"").0[0], "ABCDEFGH");
     assert_eq!(refusal("3\n0\n0\n0\nzero 2,9,9\n"), (8, 5));
     // 7: a target over its own source.
     let list = format!("3\n3\n0\n0\nmove {} 2,1,4 3 2,0,3\n", name("ABC"));
-    let (image, _, work, answer) = after(&list, b"");
+    let ([image, _, work, _], answer) = after(&list, b"", b"");
     assert_eq!((image.as_str(), work.as_str(), said(&answer)), ("AABCEFGH", "ABC", (Done, 0)));
     // 8 and 9: an image part and a stash, spread.
     let put = format!("3\n3\n1\n1\nstash {} 2,3,4\nmove {} 2,5,8 3 2,0,2 4,0,1,2,3 {}:2", name("D"), name("ADB"), name("D"));
-    assert_eq!(after(&format!("{put},1,2\n"), b"").0, "ABCDEADB");
+    assert_eq!(after(&format!("{put},1,2\n"), b"", b"").0[0], "ABCDEADB");
     assert_eq!(refusal(&format!("{put},0,1\n")), (12, 6));
     // 10.
-    assert_eq!(after("3\n2\n0\n0\nzero 4,0,1,7,8\n", b"").0, "0BCDEFG0");
+    assert_eq!(after("3\n2\n0\n0\nzero 4,0,1,7,8\n", b"", b"").0[0], "0BCDEFG0");
     // 11 and 12: new data.
     for on in all() {
         let mut lent = Lent::new("3\n2\n0\n0\nnew 4,2,3,6,7\n");
@@ -82,13 +82,13 @@ fn samples() {
         assert!(lent.image[6 * BLOCK..6 * BLOCK + 904].iter().all(|b| *b == b'n'));
         assert!(lent.image[6 * BLOCK + 904..7 * BLOCK].iter().all(|b| *b == b'G'));
     }
-    assert_eq!(after("3\n4\n0\n0\nnew 4,2,4,3,5\n", &blocks("pqrs")).0, "ABprsFGH");
+    assert_eq!(after("3\n4\n0\n0\nnew 4,2,4,3,5\n", b"", &blocks("pqrs")).0[0], "ABprsFGH");
     // 13: what free leaves.
     let list = format!("3\n0\n2\n3\nstash {x} 2,0,1\nstash {y} 2,1,3\nfree {x}\n", x = name("A"), y = name("BC"));
-    let (_, stash, _, answer) = after(&list, b"");
+    let ([_, stash, ..], answer) = after(&list, b"", b"");
     assert_eq!((stash.as_str(), answer.state.count, answer.state.sizes[0]), ("BCC", 1, 2));
     // 14 and 15.
-    assert_eq!(said(&after("3\n0\n0\n0\n", b"abc").3), (Done, 0));
+    assert_eq!(said(&after("3\n0\n0\n0\n", b"", b"abc").1), (Done, 0));
     for (total, want) in [(2, (15, 2)), (3, (0, 0)), (4, (15, 2))] {
         assert_eq!(refusal(&format!("3\n{total}\n0\n0\nnew 2,0,2\nzero 2,4,5\n")), want, "{total}");
     }
@@ -107,6 +107,11 @@ fn what_line_2_counts() {
         (format!("stash {h} 2,0,1\nmove {h} 2,5,6 1 - {h}:2,0,1\n"), 1),
         (format!("stash {h} 2,0,1\nmove {h} 2,5,8 3 2,0,2 4,0,1,2,3 {h}:2,1,2\nfree {h}\n"), 3),
         (format!("stash {h} 2,0,1\nfree {h}\n"), 0),
+        // The target of a `bsdiff`, and not N.
+        (format!("bsdiff 0 0 {h} {h} 2,0,3 1 2,0,1\n"), 3),
+        (format!("bsdiff 0 0 {h} {h} 4,0,1,0,1 3 2,0,3\n"), 2),
+        (format!("bsdiff 0 0 {h} {h} 2,4,4 2 2,0,2\n"), 0),
+        (format!("stash {h} 2,0,1\nbsdiff 0 0 {h} {h} 2,5,7 1 - {h}:2,0,1\nnew 2,0,1\n"), 3),
         // A block counts as often as it is named, in one line or in several.
         ("zero 4,0,1,0,1\n".into(), 2),
         ("zero 2,3,3\n".into(), 0),
@@ -130,7 +135,8 @@ fn what_line_2_counts() {
     ] {
         let list = format!("3\n{total}\n0\n0\n{lines}");
         for on in all() {
-            assert_eq!(on.open(list.as_bytes(), 1_048_576 * BLOCK, 0, 0).refusal.number, want, "{total}");
+            let rooms = Rooms { image: 1_048_576 * BLOCK, ..Rooms::default() };
+            assert_eq!(on.open(list.as_bytes(), rooms).refusal.number, want, "{total}");
         }
     }
 }
@@ -148,7 +154,7 @@ fn header_lines() {
         ("+3\n0\n0\n0\n", (3, 1)),
         ("3\n4294967296\n0\n0\n", (3, 2)),
         ("3\n4294967295\n0\n0\n", (15, 2)),
-        ("3\nbsdiff\n0\n0\n", (3, 2)),
+        ("3\nimgdiff\n0\n0\n", (3, 2)),
         ("1\n0\n65\n4\n", (4, 1)),
         ("3\n0\n65\n4\n", (5, 3)),
         ("3\n0\n64\n4\n", (5, 4)),
@@ -166,12 +172,14 @@ fn command_lines() {
     let cases: Vec<(u64, String, usize)> = vec![
         (0, "\n".into(), 6),
         (0, " \n".into(), 6),
-        (0, "bsdiff".into(), 7),
         (0, "imgdiff".into(), 7),
-        (0, "bsdiff\n".into(), 7),
+        (0, "imgdiff\n".into(), 7),
         (0, "imgdiff anything".into(), 7),
-        (0, "bsdiff\t1\n".into(), 6),
-        (0, "bsdiffx 1\n".into(), 6),
+        (0, "imgdiff\t1\n".into(), 6),
+        (0, "imgdiffx 1\n".into(), 6),
+        (0, "bsdiff".into(), 6),
+        (0, "bsdiff\n".into(), 6),
+        (0, "bsdiff anything\n".into(), 6),
         (0, "zero 2,0,0".into(), 6),
         (0, "zero  2,0,0\n".into(), 6),
         (0, "zero 2,0,0 \n".into(), 6),
@@ -222,24 +230,37 @@ fn area_lengths() {
     let list = b"3\n0\n0\n0\n";
     let whole = 4_096 * 4_096;
     for on in all() {
-        for (image, stash, work, want) in [
-            (0, 0, 0, 0),
-            (1, 0, 0, 1),
-            (0, BLOCK - 1, 0, 1),
-            (0, 0, BLOCK + 1, 1),
-            (256 * whole, whole, whole, 0),
-            (256 * whole + BLOCK, whole, whole, 1),
-            (0, whole + BLOCK, 0, 1),
-            (0, 0, whole + BLOCK, 1),
-            (usize::MAX, 0, 0, 1),
-            (usize::MAX - BLOCK + 1, 0, 0, 1),
+        for (image, stash, work, result, want) in [
+            (0, 0, 0, 0, 0),
+            (1, 0, 0, 0, 1),
+            (0, BLOCK - 1, 0, 0, 1),
+            (0, 0, BLOCK + 1, 0, 1),
+            (0, 0, 0, BLOCK - 1, 1),
+            (0, 0, 0, 1, 1),
+            (256 * whole, whole, whole, whole, 0),
+            (256 * whole + BLOCK, whole, whole, whole, 1),
+            (0, whole + BLOCK, 0, 0, 1),
+            (0, 0, whole + BLOCK, 0, 1),
+            (0, 0, 0, whole + BLOCK, 1),
+            (0, 0, 0, whole + 1, 1),
+            (usize::MAX, 0, 0, 0, 1),
+            (usize::MAX - BLOCK + 1, 0, 0, 0, 1),
+            (0, 0, 0, usize::MAX, 1),
+            (0, 0, 0, usize::MAX - BLOCK + 1, 1),
         ] {
-            assert_eq!(on.open(list, image, stash, work).refusal, Refusal { number: want, line: 0 });
+            // The patch data may have any length.
+            for patch in [0, 1, BLOCK, 1 << 33, usize::MAX] {
+                let state = on.open(list, Rooms { image, stash, work, result, patch });
+                assert_eq!(state.refusal, Refusal { number: want, line: 0 });
+                assert_eq!((state.lengths.result, state.lengths.patch), if want == 0 { (result, patch) } else { (0, 0) });
+            }
         }
         let mut long = vec![b'x'; 4_194_305];
-        assert_eq!(on.open(&long, 0, 0, 0).refusal, Refusal { number: 2, line: 0 });
-        assert_eq!(on.open(&long, 1, 0, 0).refusal, Refusal { number: 1, line: 0 });
+        let nothing = Rooms::default();
+        assert_eq!(on.open(&long, nothing).refusal, Refusal { number: 2, line: 0 });
+        assert_eq!(on.open(&long, Rooms { image: 1, ..nothing }).refusal, Refusal { number: 1, line: 0 });
+        assert_eq!(on.open(&long, Rooms { result: 1, ..nothing }).refusal, Refusal { number: 1, line: 0 });
         long.pop();
-        assert_eq!(on.open(&long, 0, 0, 0).refusal, Refusal { number: 3, line: 1 });
+        assert_eq!(on.open(&long, nothing).refusal, Refusal { number: 3, line: 1 });
     }
 }

@@ -5,7 +5,7 @@ mod common;
 use check::hex;
 use common::*;
 use reference::Outcome::{Done, More};
-use reference::{digest, Lengths, Refusal, State, BLOCK};
+use reference::{digest, Lengths, Refusal, Rooms, State, BLOCK};
 
 #[test]
 fn pieces_of_any_length() {
@@ -14,7 +14,7 @@ fn pieces_of_any_length() {
     for on in all() {
         for cuts in [vec![], vec![0], vec![1; 20], vec![4_095, 1, 1, 4_095], vec![4_096, 4_096, 0, 0], vec![8_192, 7], vec![0, 8_191, 0, 1, 0]] {
             let mut lent = Lent::new(&list);
-            let answer = on.run(&lent.list, &mut lent.image, &mut lent.stash, &mut lent.work, &data, &cuts);
+            let answer = lent.run(on, &data, &cuts);
             assert_eq!(said(&answer), (Done, 8_192));
             assert_eq!(letters(&lent.image), "qpCDEFpH");
             assert_eq!((answer.state.into, answer.state.at, answer.state.line), (0, list.len(), 7));
@@ -35,8 +35,8 @@ fn pieces_of_any_length() {
 #[test]
 fn a_hash_that_differs() {
     let list = format!("3\n2\n1\n1\nnew 2,0,1\nstash {} 2,2,3\nzero 2,7,8\n", name("D"));
-    let (image, stash, work, answer) = after(&list, &blocks("n"));
-    assert_eq!((image.as_str(), stash.as_str(), work.as_str()), ("nBCDEFGH", "xyz", "Cvw"));
+    let (areas, answer) = after(&list, b"", &blocks("n"));
+    assert_eq!(areas, ["nBCDEFGH", "xyz", "Cvw", "rst"]);
     assert_eq!(said(&answer), (refused(16, 6), 4_096));
     assert_eq!((answer.state.line, answer.state.count, answer.state.refusal), (6, 0, Refusal { number: 16, line: 6 }));
     for on in all() {
@@ -65,7 +65,7 @@ fn impossible_states() {
             let answer = lent.call(on, b"", state);
             if answer.outcome.number() == 17 {
                 assert_eq!((said(&answer), answer.state), ((refused(17, 0), 0), state));
-                assert_eq!((letters(&lent.image), letters(&lent.stash), letters(&lent.work)), ("ABCDEFGH".into(), "xyz".into(), "uvw".into()));
+                assert_eq!(lent.letters(), ["ABCDEFGH", "xyz", "uvw", "rst"]);
             }
             got.push(answer);
         }
@@ -113,6 +113,10 @@ fn impossible_states() {
     assert_eq!(edit(&|s| s.lengths.image += BLOCK), 17);
     assert_eq!(edit(&|s| s.lengths.stash = 0), 17);
     assert_eq!(edit(&|s| s.lengths.work = 1), 17);
+    assert_eq!(edit(&|s| s.lengths.result += BLOCK), 17);
+    assert_eq!(edit(&|s| s.lengths.result = 0), 17);
+    assert_eq!(edit(&|s| s.lengths.patch = 1), 17);
+    assert_eq!(edit(&|s| s.lengths.patch = usize::MAX), 17);
     assert_eq!(edit(&|s| *s = State::ZERO), 17);
     assert_eq!(edit(&|s| s.refusal.line = 9), 0);
 }
@@ -120,7 +124,7 @@ fn impossible_states() {
 #[test]
 fn a_list_altered_after_opening() {
     let good = "3\n2\n1\n1\nzero 2,0,1\nzero 2,1,2\n";
-    for (line, want) in [("zero 2,1,9", 8), ("zero 2,2,1", 6), ("bsdiff 1,2", 7), ("Zero 2,1,2", 6)] {
+    for (line, want) in [("zero 2,1,9", 8), ("zero 2,2,1", 6), ("imgdiff 1,", 7), ("bsdiff 1,2", 6), ("Zero 2,1,2", 6)] {
         for on in all() {
             let mut lent = Lent::new(good);
             let state = lent.open(on);
@@ -158,6 +162,8 @@ fn sixty_four_stashes() {
             image: image.clone(),
             stash: vec![9; 64 * BLOCK],
             work: vec![8; BLOCK],
+            result: Vec::new(),
+            patch: Vec::new(),
         };
         assert_eq!(lent.open(on).refusal, Refusal { number: 14, line: 69 });
         let swap = format!("{list}free {}\nstash {} 2,64,65\nmove {} 2,0,1 1 - {}:2,0,1\n", named[0], named[64], named[63], named[63]);
@@ -223,7 +229,7 @@ fn a_header_altered_after_opening() {
             let mut lent = Lent::new(&good);
             let first = lent.all(on, b"nn");
             assert_eq!(said(&first), (More, 2));
-            let (image, stash, work) = (lent.image.clone(), lent.stash.clone(), lent.work.clone());
+            let before = lent.letters();
             let mut state = first.state;
             state.at = state.at + list.len() - good.len();
             state.lengths.list = list.len();
@@ -232,7 +238,7 @@ fn a_header_altered_after_opening() {
             assert_eq!(second.outcome.number(), want, "{list:?}");
             if want == 17 {
                 assert_eq!((said(&second), second.state), ((refused(17, 0), 0), state));
-                assert!(lent.image == image && lent.stash == stash && lent.work == work);
+                assert_eq!(lent.letters(), before);
                 // It is not kept: over the list that was opened the run goes on.
                 lent.list = good.clone().into_bytes();
                 assert_eq!(said(&lent.call(on, b"n", first.state)), (More, 1));
@@ -241,23 +247,41 @@ fn a_header_altered_after_opening() {
     }
 }
 
+/// Areas of these lengths.
+fn lent_areas(rooms: Rooms) -> Lent {
+    let Rooms { image, stash, work, result, patch } = rooms;
+    Lent { list: vec![], image: vec![1; image], stash: vec![2; stash], work: vec![3; work], result: vec![4; result], patch: vec![5; patch] }
+}
+
 #[test]
 fn areas_and_a_list_that_no_longer_fit() {
     // The lengths are those that the state holds, and they alone would now be refused: 1, then 2.
     for on in all() {
         let list = b"3\n0\n0\n0\nzero 2,0,0\n";
-        let state = on.open(list, BLOCK, BLOCK, BLOCK);
-        for (image, stash, work) in [(BLOCK + 1, BLOCK, BLOCK), (BLOCK, BLOCK - 1, BLOCK), (BLOCK, BLOCK, 4_097 * BLOCK)] {
-            let mut other = state;
-            (other.lengths.image, other.lengths.stash, other.lengths.work) = (image, stash, work);
-            let answer = on.call(list, &mut vec![1; image], &mut vec![2; stash], &mut vec![3; work], b"", other);
-            assert_eq!((said(&answer), answer.state), ((refused(17, 0), 0), other));
+        let rooms = Rooms { image: BLOCK, stash: BLOCK, work: BLOCK, result: BLOCK, patch: 3 };
+        let state = on.open(list, rooms);
+        for other in [
+            Rooms { image: BLOCK + 1, ..rooms },
+            Rooms { stash: BLOCK - 1, ..rooms },
+            Rooms { work: 4_097 * BLOCK, ..rooms },
+            Rooms { result: BLOCK + 1, ..rooms },
+            Rooms { result: 4_097 * BLOCK, ..rooms },
+        ] {
+            let state = State { lengths: Lengths::of(list, other), ..state };
+            let answer = on.call(list, lent_areas(other).areas().1, b"", state);
+            assert_eq!((said(&answer), answer.state), ((refused(17, 0), 0), state));
+        }
+        // Patch data of another length alone is 17 too; of any length that the state has, it is not.
+        for (held, lent, want) in [(3, 3, 0), (3, 4, 17), (3, 0, 17), (0, 0, 0), (9_999, 9_999, 0)] {
+            let state = State { lengths: Lengths { patch: held, ..state.lengths }, ..state };
+            let answer = on.call(list, lent_areas(Rooms { patch: lent, ..rooms }).areas().1, b"", state);
+            assert_eq!(answer.outcome.number(), want, "{held} {lent}");
         }
         let mut long = list.to_vec();
         long.resize(4_194_304, b'\n');
         for want in [6, 17] {
             let other = State { lengths: Lengths { list: long.len(), ..state.lengths }, ..state };
-            let answer = on.call(&long, &mut [1; BLOCK], &mut [2; BLOCK], &mut [3; BLOCK], b"", other);
+            let answer = on.call(&long, lent_areas(rooms).areas().1, b"", other);
             assert_eq!(answer.outcome.number(), want);
             long.push(b'\n');
         }

@@ -1,10 +1,10 @@
-//! Applies an update: apply LIST IMAGE NEW
+//! Applies an update: apply LIST IMAGE NEW [PATCH]
 //!
 //! LIST is the transfer list, IMAGE the image that is updated in its place, NEW the new data, read in pieces, so it may be larger than
-//! memory. The image is written back after a run, refused or not; a refused opening leaves it alone. Prints `done T`, `more T` (T: bytes of
+//! memory, and PATCH the patch data, where the list has `bsdiff` lines. The image is written back after a run, refused or not; a refused opening leaves it alone. Prints `done T`, `more T` (T: bytes of
 //! new data taken) or `refused: ` and why. Exit status: 0 done, 1 more or refused, 2 for a file that cannot be read or written.
 
-use muongrabi::{Areas, Outcome, Refusal, Updater, BLOCK, MOST_AREA};
+use muongrabi::{Areas, Outcome, Refusal, Updater, BLOCK, MOST_AREA, MOST_RESULT};
 use std::fs::{self, File, OpenOptions};
 use std::io::{self, Read, Write};
 use std::process::ExitCode;
@@ -15,16 +15,19 @@ fn named<T>(name: &str, result: io::Result<T>) -> Result<T, String> {
 }
 
 /// How the run ended, and the bytes it took. A refused opening is the inner error.
-fn apply(list: &str, image: &str, new: &str) -> Result<Result<(Outcome, u64), Refusal>, String> {
+fn apply(list: &str, image: &str, new: &str, patch: Option<&str>) -> Result<Result<(Outcome, u64), Refusal>, String> {
     let text = named(list, fs::read(list))?;
     let mut bytes = named(image, fs::read(image))?;
     let mut file = named(image, OpenOptions::new().write(true).open(image))?;
     let mut data = named(new, File::open(new))?;
+    let patch = patch.map_or(Ok(Vec::new()), |name| named(name, fs::read(name)))?;
     // The largest areas, so that no list is refused for want of room.
     let mut stash = vec![0; MOST_AREA * BLOCK];
     let mut work = vec![0; MOST_AREA * BLOCK];
+    let mut result = vec![0; MOST_RESULT * BLOCK];
 
-    let mut updater = match Updater::open(&text, Areas { image: &mut bytes, stash: &mut stash, work: &mut work }) {
+    let areas = Areas { image: &mut bytes, stash: &mut stash, work: &mut work, result: &mut result, patch: &patch };
+    let mut updater = match Updater::open(&text, areas) {
         Ok(updater) => updater,
         Err(refusal) => return Ok(Err(refusal)),
     };
@@ -42,11 +45,15 @@ fn apply(list: &str, image: &str, new: &str) -> Result<Result<(Outcome, u64), Re
 
 fn main() -> ExitCode {
     let words: Vec<String> = std::env::args().skip(1).collect();
-    let [list, image, new] = &words[..] else {
-        eprintln!("usage: apply LIST IMAGE NEW");
-        return ExitCode::from(2);
+    let ([list, image, new], patch) = match &words[..] {
+        [list, image, new] => ([list, image, new], None),
+        [list, image, new, patch] => ([list, image, new], Some(patch.as_str())),
+        _ => {
+            eprintln!("usage: apply LIST IMAGE NEW [PATCH]");
+            return ExitCode::from(2);
+        }
     };
-    match apply(list, image, new) {
+    match apply(list, image, new, patch) {
         Ok(Ok((Outcome::Done, taken))) => {
             println!("done {taken}");
             return ExitCode::SUCCESS;

@@ -1,7 +1,7 @@
 //! What crosses to the proved library, laid out as in `include/muongrabi.h`. All `unsafe` is here: the functions below are safe, and the
 //! public types hide the structs, so that they can stay when something else crosses.
 
-use crate::MOST_STASHES;
+use crate::{Areas, MOST_STASHES};
 use core::mem::{offset_of, size_of};
 
 pub const DONE: usize = 0;
@@ -21,6 +21,8 @@ pub struct Lengths {
     pub image: usize,
     pub stash: usize,
     pub work: usize,
+    pub result: usize,
+    pub patch: usize,
 }
 
 #[repr(C)]
@@ -45,11 +47,11 @@ pub struct Answer {
     pub taken: usize,
 }
 
-/// The layout that the library was compiled with. It changes together with the number in `muongrabi_abi_1`.
+/// The layout that the library was compiled with. It changes together with the number in `muongrabi_abi_2`.
 const _: () = {
     assert!(size_of::<usize>() == 8);
     assert!(size_of::<Refusal>() == 16);
-    assert!(size_of::<Lengths>() == 32);
+    assert!(size_of::<Lengths>() == 48);
     assert!(offset_of!(State, hashes) == 0);
     assert!(offset_of!(State, sizes) == 1_280);
     assert!(offset_of!(State, count) == 1_792);
@@ -58,25 +60,30 @@ const _: () = {
     assert!(offset_of!(State, into) == 1_816);
     assert!(offset_of!(State, refusal) == 1_824);
     assert!(offset_of!(State, lengths) == 1_840);
-    assert!(size_of::<State>() == 1_872);
+    assert!(size_of::<State>() == 1_888);
     assert!(offset_of!(Answer, state) == 0);
-    assert!(offset_of!(Answer, outcome) == 1_872);
-    assert!(offset_of!(Answer, number) == 1_880);
-    assert!(offset_of!(Answer, line) == 1_888);
-    assert!(offset_of!(Answer, taken) == 1_896);
-    assert!(size_of::<Answer>() == 1_904);
+    assert!(offset_of!(Answer, outcome) == 1_888);
+    assert!(offset_of!(Answer, number) == 1_896);
+    assert!(offset_of!(Answer, line) == 1_904);
+    assert!(offset_of!(Answer, taken) == 1_912);
+    assert!(size_of::<Answer>() == 1_920);
 };
 
 #[rustfmt::skip]
 extern "C" {
-    fn muongrabi_abi_1() -> usize;
+    fn muongrabi_abi_2() -> usize;
     fn muongrabi_digest(bytes: *const u8, bytes_length: usize, out: *mut u8);
-    fn muongrabi_open(list: *const u8, list_length: usize, image_length: usize, stash_length: usize, work_length: usize) -> State;
+    fn muongrabi_open(
+        list: *const u8, list_length: usize,
+        image_length: usize, stash_length: usize, work_length: usize, result_length: usize, patch_length: usize,
+    ) -> State;
     fn muongrabi_call(
         list: *const u8, list_length: usize,
         image: *mut u8, image_length: usize,
         stash: *mut u8, stash_length: usize,
         work: *mut u8, work_length: usize,
+        result: *mut u8, result_length: usize,
+        patch: *const u8, patch_length: usize,
         piece: *const u8, piece_length: usize,
         state: State,
     ) -> Answer;
@@ -85,6 +92,8 @@ extern "C" {
         image: *mut u8, image_length: usize,
         stash: *mut u8, stash_length: usize,
         work: *mut u8, work_length: usize,
+        result: *mut u8, result_length: usize,
+        patch: *const u8, patch_length: usize,
         data: *const u8, data_length: usize,
         cuts: *const usize, cuts_length: usize,
     ) -> Answer;
@@ -94,7 +103,7 @@ extern "C" {
 /// Only an archive of this layout has a function of that name, so that no other one links, wherever the linker found it.
 fn ask_abi() {
     // SAFETY: it takes nothing and gives a number.
-    unsafe { muongrabi_abi_1() };
+    unsafe { muongrabi_abi_2() };
 }
 
 pub fn digest(bytes: &[u8]) -> [u8; 20] {
@@ -104,22 +113,26 @@ pub fn digest(bytes: &[u8]) -> [u8; 20] {
     out
 }
 
-pub fn open(list: &[u8], image_length: usize, stash_length: usize, work_length: usize) -> State {
+pub fn open(list: &[u8], lengths: crate::Lengths) -> State {
+    let crate::Lengths { image, stash, work, result, patch } = lengths;
     ask_abi();
     // SAFETY: only the list is read.
-    unsafe { muongrabi_open(list.as_ptr(), list.len(), image_length, stash_length, work_length) }
+    unsafe { muongrabi_open(list.as_ptr(), list.len(), image, stash, work, result, patch) }
 }
 
 #[rustfmt::skip]
-pub fn call(list: &[u8], image: &mut [u8], stash: &mut [u8], work: &mut [u8], piece: &[u8], state: &State) -> Answer {
+pub fn call(list: &[u8], areas: Areas<'_>, piece: &[u8], state: &State) -> Answer {
+    let Areas { image, stash, work, result, patch } = areas;
     ask_abi();
-    // SAFETY: five slices, each with its own length. The three that are written are borrowed for writing, so none overlaps another.
+    // SAFETY: seven slices, each with its own length. The four that are written are borrowed for writing, so none overlaps another.
     unsafe {
         muongrabi_call(
             list.as_ptr(), list.len(),
             image.as_mut_ptr(), image.len(),
             stash.as_mut_ptr(), stash.len(),
             work.as_mut_ptr(), work.len(),
+            result.as_mut_ptr(), result.len(),
+            patch.as_ptr(), patch.len(),
             piece.as_ptr(), piece.len(),
             *state,
         )
@@ -127,7 +140,8 @@ pub fn call(list: &[u8], image: &mut [u8], stash: &mut [u8], work: &mut [u8], pi
 }
 
 #[rustfmt::skip]
-pub fn run(list: &[u8], image: &mut [u8], stash: &mut [u8], work: &mut [u8], data: &[u8], cuts: &[usize]) -> Answer {
+pub fn run(list: &[u8], areas: Areas<'_>, data: &[u8], cuts: &[usize]) -> Answer {
+    let Areas { image, stash, work, result, patch } = areas;
     ask_abi();
     // SAFETY: as in `call`; the cuts are lent to be read.
     unsafe {
@@ -136,6 +150,8 @@ pub fn run(list: &[u8], image: &mut [u8], stash: &mut [u8], work: &mut [u8], dat
             image.as_mut_ptr(), image.len(),
             stash.as_mut_ptr(), stash.len(),
             work.as_mut_ptr(), work.len(),
+            result.as_mut_ptr(), result.len(),
+            patch.as_ptr(), patch.len(),
             data.as_ptr(), data.len(),
             cuts.as_ptr(), cuts.len(),
         )

@@ -1,11 +1,11 @@
 //! A block updater: it opens an Android transfer list of version 3 and runs it over a lent image while the new data arrives in pieces of
-//! any size. After a dropped connection it goes on from the state it left, and a source that does not have its hash stops the run before
-//! a byte of the target is written.
+//! any size. After a dropped connection it goes on from the state it left, and a source that does not have its hash, or a patch whose result
+//! does not have its own, stops the run before a byte of the target is written.
 //!
-//! This crate is the safe face of a library that is proved: any bytes as list, data, state or sparse file get an answer; a list opens
+//! This crate is the safe face of a library that is proved: any bytes as list, data, patch, state or sparse file get an answer; a list opens
 //! exactly when it meets the rules, and then does what they say, in order; and however the new data is cut into pieces, what stands after the
 //! last call is what the rules give for the pieces joined. Nothing is allocated, no file is opened and nothing is kept inside: all that is
-//! worked on is lent, and what must be remembered between calls is the [`State`]. Some 30 KiB of stack are wanted.
+//! worked on is lent, and what must be remembered between calls is the [`State`]. Some 32 KiB of stack are wanted.
 //!
 //! ```
 //! use muongrabi::{Areas, Outcome, Updater, BLOCK};
@@ -14,7 +14,7 @@
 //! let list = b"3\n3\n0\n0\nnew 4,0,1,3,4\nzero 2,1,2\n";
 //! let mut image = vec![b'-'; 4 * BLOCK];
 //!
-//! let areas = Areas { image: &mut image, stash: &mut [], work: &mut [] };
+//! let areas = Areas { image: &mut image, stash: &mut [], work: &mut [], result: &mut [], patch: &[] };
 //! let mut updater = Updater::open(list, areas)?;
 //! assert_eq!(updater.write(&[b'n'; 5_000]), Outcome::More);
 //! // However long the signal is gone, the updater waits where it stood.
@@ -31,7 +31,7 @@
 //! ```
 //! use muongrabi::{open, Lengths, Refusal, BLOCK};
 //!
-//! let lengths = Lengths { image: 8 * BLOCK, stash: 0, work: 0 };
+//! let lengths = Lengths { image: 8 * BLOCK, stash: 0, work: 0, result: 0, patch: 0 };
 //! let refusal = open(b"3\n2\n0\n0\nzero 2,7,9\n", lengths).unwrap_err();
 //! assert_eq!(refusal.number(), Refusal::PAST_IMAGE);
 //! assert_eq!(refusal.to_string(), "line 5: a range of the target or source ends past the image (refusal 8)");
@@ -60,7 +60,7 @@ mod state;
 mod updater;
 
 pub use areas::{Areas, Lengths};
-pub use limits::{BLOCK, MOST_AREA, MOST_IMAGE, MOST_LIST, MOST_STASHES};
+pub use limits::{BLOCK, MOST_AREA, MOST_IMAGE, MOST_LIST, MOST_RESULT, MOST_STASHES};
 pub use outcome::{Called, Outcome};
 pub use refusal::Refusal;
 pub use sparse::load_sparse;
@@ -77,18 +77,19 @@ pub fn digest(bytes: &[u8]) -> [u8; 20] {
     exports::digest(bytes)
 }
 
-/// Checks the whole list for areas of these lengths, and gives the state of its first command line. No block is looked at.
+/// Checks the whole list for areas and patch data of these lengths, and gives the state of its first command line. No block is looked at, and
+/// no patch.
 ///
 /// ```
 /// use muongrabi::{open, Lengths};
 ///
-/// let lengths = Lengths { image: 4_096, stash: 0, work: 0 };
+/// let lengths = Lengths { image: 4_096, stash: 0, work: 0, result: 0, patch: 0 };
 /// assert_eq!(open(b"3\n1\n0\n0\nnew 2,0,1\n", lengths)?.line(), 5);
 /// assert_eq!(open(b"2\n1\n0\n0\nnew 2,0,1\n", lengths).unwrap_err().line(), 1);
 /// # Ok::<(), muongrabi::Refusal>(())
 /// ```
 pub fn open(list: &[u8], lengths: Lengths) -> Result<State, Refusal> {
-    let state = State { raw: exports::open(list, lengths.image, lengths.stash, lengths.work) };
+    let state = State { raw: exports::open(list, lengths) };
     match state.refusal() {
         None => Ok(state),
         Some(refusal) => Err(refusal),
@@ -98,10 +99,11 @@ pub fn open(list: &[u8], lengths: Lengths) -> Result<State, Refusal> {
 /// Runs the list from where the state stands until it needs a byte that the piece does not have, the list is finished, or a line is
 /// refused. The state is then that of the next call.
 ///
-/// A refusal other than 17 is held in the state, and every later call repeats it. With 17 (the state does not fit the list and the areas)
-/// the state stays as it was, and nothing is taken or changed. A refused line changes nothing itself, except the work area where its hash
-/// differs (16). Nothing rests on what the opening found: state and lengths are looked at (17), and each line is read and checked again (6 to
-/// 14) before it runs, so that a line altered since then is refused where it stands. Line 2 is the opening's alone (15).
+/// A refusal other than 17 is held in the state, and every later call repeats it. With 17 (the state does not fit the list, the areas and the
+/// patch data) the state stays as it was, and nothing is taken or changed. A refused line changes nothing itself, with two exceptions: where a
+/// hash differs (16) or a patch is malformed (19) the work area has the source, and where it is the hash of a patch's result, the result area
+/// has the result. Nothing rests on what the opening found: state and lengths are looked at (17), and each line is read and checked again (6 to
+/// 14, 18) before it runs, so that a line altered since then is refused where it stands. Line 2 is the opening's alone (15).
 ///
 /// [`Updater`] keeps list, areas and state together; this is for callers who keep them themselves.
 ///
@@ -110,7 +112,7 @@ pub fn open(list: &[u8], lengths: Lengths) -> Result<State, Refusal> {
 ///
 /// let list = b"3\n1\n0\n0\nnew 2,0,1\n";
 /// let mut image = [0; 4_096];
-/// let mut areas = Areas { image: &mut image, stash: &mut [], work: &mut [] };
+/// let mut areas = Areas { image: &mut image, stash: &mut [], work: &mut [], result: &mut [], patch: &[] };
 /// let mut state = open(list, areas.lengths())?;
 /// let first = call(list, areas.reborrow(), &[7; 4_000], &mut state);
 /// assert_eq!(first, Called { outcome: Outcome::More, taken: 4_000 });
@@ -119,8 +121,7 @@ pub fn open(list: &[u8], lengths: Lengths) -> Result<State, Refusal> {
 /// # Ok::<(), muongrabi::Refusal>(())
 /// ```
 pub fn call(list: &[u8], areas: Areas<'_>, piece: &[u8], state: &mut State) -> Called {
-    let Areas { image, stash, work } = areas;
-    let answer = exports::call(list, image, stash, work, piece, &state.raw);
+    let answer = exports::call(list, areas, piece, &state.raw);
     state.raw = answer.state;
     Called::of(&answer)
 }
@@ -133,12 +134,11 @@ pub fn call(list: &[u8], areas: Areas<'_>, piece: &[u8], state: &mut State) -> C
 /// use muongrabi::{run, Areas, Outcome};
 ///
 /// let mut image = [0; 8_192];
-/// let areas = Areas { image: &mut image, stash: &mut [], work: &mut [] };
+/// let areas = Areas { image: &mut image, stash: &mut [], work: &mut [], result: &mut [], patch: &[] };
 /// let (called, _) = run(b"3\n2\n0\n0\nnew 2,0,2\n", areas, &[1; 8_192], &[10, 0, 5_000]);
 /// assert_eq!((called.outcome, called.taken), (Outcome::Done, 8_192));
 /// ```
 pub fn run(list: &[u8], areas: Areas<'_>, data: &[u8], cuts: &[usize]) -> (Called, State) {
-    let Areas { image, stash, work } = areas;
-    let answer = exports::run(list, image, stash, work, data, cuts);
+    let answer = exports::run(list, areas, data, cuts);
     (Called::of(&answer), State { raw: answer.state })
 }

@@ -9,6 +9,9 @@ pub const MOST_IMAGE: usize = 1_048_576;
 /// Blocks of the largest stash area, and of the largest work area.
 pub const MOST_AREA: usize = 4_096;
 
+/// Blocks of the largest result area.
+pub const MOST_RESULT: usize = 4_096;
+
 /// Bytes of the longest list.
 pub const MOST_LIST: usize = 4_194_304;
 

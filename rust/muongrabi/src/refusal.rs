@@ -4,7 +4,7 @@ use core::fmt;
 
 /// Why a list, a line, a call or a sparse file is refused, and at which line of the list.
 ///
-/// Its `Display` is for people: `line 6: the source does not have the hash that the list gives (refusal 16)`.
+/// Its `Display` is for people: `line 6: a range of the target or source ends past the image (refusal 8)`.
 #[derive(Clone, Copy, PartialEq, Eq, Hash, Debug)]
 pub struct Refusal {
     number: usize,
@@ -25,13 +25,13 @@ impl Refusal {
     pub const HEADER_LIMIT: usize = 5;
     /// A command line is ill formed, or its word is unknown.
     pub const LINE_FORM: usize = 6;
-    /// The line's first word is `bsdiff` or `imgdiff`.
+    /// The line's first word is `imgdiff`.
     pub const UNSUPPORTED: usize = 7;
     /// A range of target or image source ends past the image.
     pub const PAST_IMAGE: usize = 8;
-    /// N, or an image source, is larger than the work area.
-    pub const PAST_WORK: usize = 9;
-    /// A stash named in `move` or `free` is not held.
+    /// N, or an image source, is larger than the work area; or the target of a `bsdiff` is larger than the result area.
+    pub const PAST_AREA: usize = 9;
+    /// A stash named in `move`, `bsdiff` or `free` is not held.
     pub const NOT_HELD: usize = 10;
     /// The sizes of target, source and places do not agree.
     pub const SIZES_DIFFER: usize = 11;
@@ -41,12 +41,16 @@ impl Refusal {
     pub const HELD_ALREADY: usize = 13;
     /// Holding the stash would pass line 3 or line 4.
     pub const NO_ROOM: usize = 14;
-    /// All `new`, `zero` and `move` targets together differ from line 2.
+    /// All `new`, `zero`, `move` and `bsdiff` targets together differ from line 2.
     pub const TOTAL_DIFFERS: usize = 15;
-    /// In a run: a source's SHA-1 is not the one in the list.
+    /// In a run: the SHA-1 of a source, or of a patch's result, is not the one in the list.
     pub const HASH_DIFFERS: usize = 16;
-    /// In a call: the state is impossible, or the length of the list or of an area changed.
+    /// In a call: the state is impossible, or the length of the list, of an area or of the patch data changed.
     pub const STATE_IMPOSSIBLE: usize = 17;
+    /// The offset and length of a `bsdiff`'s patch pass the end of the patch data.
+    pub const PAST_PATCH: usize = 18;
+    /// In a run: a patch is malformed, or its result is not as long as the target.
+    pub const PATCH_MALFORMED: usize = 19;
     /// A sparse file's header is cut short, or its mark or major version is another.
     pub const SPARSE_HEADER: usize = 30;
     /// A sparse file's header sizes are not 28 and 12, or its block size is not 4,096.
@@ -83,23 +87,25 @@ impl Refusal {
     pub const fn text(&self) -> &'static str {
         match self.number {
             0 => "nothing is refused",
-            Refusal::AREA_SIZE => "the image, stash or work area is not whole blocks of 4096 bytes, or is over its limit",
+            Refusal::AREA_SIZE => "the image, stash, work or result area is not whole blocks of 4096 bytes, or is over its limit",
             Refusal::LIST_LENGTH => "the list is longer than 4194304 bytes",
             Refusal::HEADER_FORM => "a header line is missing, is no number from 0 to 4294967295 in plain digits, or has no line feed",
             Refusal::OTHER_VERSION => "the list's version is not 3",
             Refusal::HEADER_LIMIT => "the list asks for more than 64 stashes, or for more blocks than the stash area has",
             Refusal::LINE_FORM => "the line is not a command: its word is unknown, or its form is wrong",
-            Refusal::UNSUPPORTED => "the commands bsdiff and imgdiff are not supported",
+            Refusal::UNSUPPORTED => "the command imgdiff is not supported",
             Refusal::PAST_IMAGE => "a range of the target or source ends past the image",
-            Refusal::PAST_WORK => "the source is larger than the work area",
+            Refusal::PAST_AREA => "the source is larger than the work area, or the target than the result area",
             Refusal::NOT_HELD => "the line names a stash that is not held",
             Refusal::SIZES_DIFFER => "the sizes of target, source and places do not agree",
             Refusal::MISPLACED => "a place lies past the end of the source, or is taken twice",
             Refusal::HELD_ALREADY => "a stash of this hash is held already",
             Refusal::NO_ROOM => "the stash would pass the number of stashes (line 3) or of blocks (line 4)",
-            Refusal::TOTAL_DIFFERS => "the targets of all new, zero and move lines together do not have as many blocks as line 2 says",
-            Refusal::HASH_DIFFERS => "the source does not have the hash that the list gives",
-            Refusal::STATE_IMPOSSIBLE => "the state does not fit the list and the areas of this call",
+            Refusal::TOTAL_DIFFERS => "the targets of all new, zero, move and bsdiff lines together do not have as many blocks as line 2 says",
+            Refusal::HASH_DIFFERS => "the source, or what a patch makes of it, does not have the hash that the list gives",
+            Refusal::STATE_IMPOSSIBLE => "the state does not fit the list, the areas and the patch data of this call",
+            Refusal::PAST_PATCH => "the line's patch ends past the patch data",
+            Refusal::PATCH_MALFORMED => "the patch is malformed, or what it makes is not as long as the target",
             Refusal::SPARSE_HEADER => {
                 "the file is no sparse file of major version 1: its header is cut short, or the mark or the version in it is another"
             }

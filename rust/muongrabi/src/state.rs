@@ -40,7 +40,7 @@ pub struct Fields {
     pub refusal: Refusal,
     /// The list's length at opening, in bytes.
     pub list: usize,
-    /// The areas' lengths at opening.
+    /// The lengths of the areas and of the patch data at opening.
     pub lengths: Lengths,
 }
 
@@ -79,7 +79,7 @@ impl State {
             into: *into,
             refusal: Refusal::new(refusal.number, refusal.line),
             list: lengths.list,
-            lengths: Lengths { image: lengths.image, stash: lengths.stash, work: lengths.work },
+            lengths: Lengths { image: lengths.image, stash: lengths.stash, work: lengths.work, result: lengths.result, patch: lengths.patch },
         }
     }
 }
@@ -95,7 +95,14 @@ impl From<&Fields> for State {
             at: *at,
             into: *into,
             refusal: exports::Refusal { number: refusal.number(), line: refusal.line() },
-            lengths: exports::Lengths { list: *list, image: lengths.image, stash: lengths.stash, work: lengths.work },
+            lengths: exports::Lengths {
+                list: *list,
+                image: lengths.image,
+                stash: lengths.stash,
+                work: lengths.work,
+                result: lengths.result,
+                patch: lengths.patch,
+            },
         };
         for ((stash, hash), size) in stashes.iter().zip(raw.hashes.chunks_exact_mut(20)).zip(&mut raw.sizes) {
             hash.copy_from_slice(&stash.hash);

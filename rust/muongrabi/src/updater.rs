@@ -40,7 +40,7 @@ impl<'a> Updater<'a> {
     /// for (block, expected) in [(b'a', Outcome::Done), (b'b', Outcome::Refused(Refusal::new(Refusal::HASH_DIFFERS, 5)))] {
     ///     let mut image = vec![0; 2 * BLOCK];
     ///     image[..BLOCK].fill(block);
-    ///     let areas = Areas { image: &mut image, stash: &mut [], work: &mut [0; BLOCK] };
+    ///     let areas = Areas { image: &mut image, stash: &mut [], work: &mut [0; BLOCK], result: &mut [], patch: &[] };
     ///     assert_eq!(Updater::open(list.as_bytes(), areas)?.write(&[]), expected);
     ///     assert_eq!(image[BLOCK], if expected == Outcome::Done { b'a' } else { 0 });
     /// }
@@ -98,7 +98,7 @@ impl fmt::Debug for Updater<'_> {
 /// use std::io::Write;
 ///
 /// let mut image = [0; 4_096];
-/// let areas = Areas { image: &mut image, stash: &mut [], work: &mut [] };
+/// let areas = Areas { image: &mut image, stash: &mut [], work: &mut [], result: &mut [], patch: &[] };
 /// let mut updater = Updater::open(b"3\n1\n0\n0\nnew 2,0,1\n", areas).unwrap();
 /// std::io::copy(&mut &[9; 4_096][..], &mut updater)?;
 /// updater.flush()?;

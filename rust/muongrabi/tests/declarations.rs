@@ -1,7 +1,7 @@
 //! The proved source, the C header and this crate declare the same things: functions, structs, limits, refusals in numbers and in words.
 //! No compiler sees more than one of them at a time, so their texts are compared.
 
-use muongrabi::{Refusal, BLOCK, MOST_AREA, MOST_IMAGE, MOST_LIST, MOST_STASHES};
+use muongrabi::{Refusal, BLOCK, MOST_AREA, MOST_IMAGE, MOST_LIST, MOST_RESULT, MOST_STASHES};
 
 const HEADER: &str = include_str!("../../../include/muongrabi.h");
 const EXPORTS: &str = include_str!("../src/exports.rs");
@@ -52,7 +52,7 @@ fn abi() {
         assert!(text.contains(&declared), "{declared}");
     }
     // The layout that goes with the number.
-    assert_eq!((number, size_asserted("state"), size_asserted("answer")), ("1", "1872", "1904"));
+    assert_eq!((number, size_asserted("state"), size_asserted("answer")), ("2", "1888", "1920"));
 }
 
 #[test]
@@ -62,6 +62,7 @@ fn limits() {
         ("BLOCK_BYTES", "MUONGRABI_BLOCK", BLOCK),
         ("MOST_IMAGE_BLOCKS", "MUONGRABI_MOST_IMAGE", MOST_IMAGE),
         ("MOST_AREA_BLOCKS", "MUONGRABI_MOST_AREA", MOST_AREA),
+        ("MOST_RESULT_BLOCKS", "MUONGRABI_MOST_RESULT", MOST_RESULT),
         ("MOST_LIST_BYTES", "MUONGRABI_MOST_LIST", MOST_LIST),
         ("MOST_STASHES", "MUONGRABI_MOST_STASHES", MOST_STASHES),
     ] {
@@ -81,7 +82,7 @@ fn refusal_numbers() {
         ("LINE_FORM", Refusal::LINE_FORM),
         ("UNSUPPORTED", Refusal::UNSUPPORTED),
         ("PAST_IMAGE", Refusal::PAST_IMAGE),
-        ("PAST_WORK", Refusal::PAST_WORK),
+        ("PAST_AREA", Refusal::PAST_AREA),
         ("NOT_HELD", Refusal::NOT_HELD),
         ("SIZES_DIFFER", Refusal::SIZES_DIFFER),
         ("MISPLACED", Refusal::MISPLACED),
@@ -90,6 +91,8 @@ fn refusal_numbers() {
         ("TOTAL_DIFFERS", Refusal::TOTAL_DIFFERS),
         ("HASH_DIFFERS", Refusal::HASH_DIFFERS),
         ("STATE_IMPOSSIBLE", Refusal::STATE_IMPOSSIBLE),
+        ("PAST_PATCH", Refusal::PAST_PATCH),
+        ("PATCH_MALFORMED", Refusal::PATCH_MALFORMED),
         ("SPARSE_HEADER", Refusal::SPARSE_HEADER),
         ("SPARSE_SIZES", Refusal::SPARSE_SIZES),
         ("SPARSE_IMAGE", Refusal::SPARSE_IMAGE),
@@ -114,7 +117,7 @@ fn text(number: usize) -> &'static str {
 
 #[test]
 fn refusal_texts() {
-    let rows = [("texts[] = {\n", 0, Refusal::STATE_IMPOSSIBLE), ("texts_from_30[] = {\n", Refusal::SPARSE_HEADER, Refusal::SPARSE_END)];
+    let rows = [("texts[] = {\n", 0, Refusal::PATCH_MALFORMED), ("texts_from_30[] = {\n", Refusal::SPARSE_HEADER, Refusal::SPARSE_END)];
     for (row, first, last) in rows {
         let table = between(HEADER, row, "    };\n");
         let texts: Vec<&str> =
@@ -123,7 +126,7 @@ fn refusal_texts() {
         assert_eq!(texts, ours);
     }
     assert_eq!(between(HEADER, "texts_from_30[number - 30];\n    return \"", "\";"), text(usize::MAX));
-    for number in (Refusal::STATE_IMPOSSIBLE + 1..Refusal::SPARSE_HEADER).chain([Refusal::SPARSE_END + 1]) {
+    for number in (Refusal::PATCH_MALFORMED + 1..Refusal::SPARSE_HEADER).chain([Refusal::SPARSE_END + 1]) {
         assert_eq!(text(number), text(usize::MAX), "{number}");
     }
     // A limit that a text names is the limit.
@@ -147,17 +150,19 @@ fn each_text_is_of_its_number() {
         (Refusal::OTHER_VERSION, "version"),
         (Refusal::HEADER_LIMIT, "more than 64 stashes"),
         (Refusal::LINE_FORM, "not a command"),
-        (Refusal::UNSUPPORTED, "bsdiff and imgdiff"),
+        (Refusal::UNSUPPORTED, "imgdiff"),
         (Refusal::PAST_IMAGE, "past the image"),
-        (Refusal::PAST_WORK, "larger than the work area"),
+        (Refusal::PAST_AREA, "larger than the work area"),
         (Refusal::NOT_HELD, "is not held"),
         (Refusal::SIZES_DIFFER, "sizes"),
         (Refusal::MISPLACED, "place"),
         (Refusal::HELD_ALREADY, "held already"),
         (Refusal::NO_ROOM, "line 3"),
-        (Refusal::TOTAL_DIFFERS, "new, zero and move lines together"),
+        (Refusal::TOTAL_DIFFERS, "new, zero, move and bsdiff lines together"),
         (Refusal::HASH_DIFFERS, "does not have the hash"),
         (Refusal::STATE_IMPOSSIBLE, "state"),
+        (Refusal::PAST_PATCH, "past the patch data"),
+        (Refusal::PATCH_MALFORMED, "patch is malformed"),
         (Refusal::SPARSE_HEADER, "no sparse file"),
         (Refusal::SPARSE_SIZES, "header sizes"),
         (Refusal::SPARSE_IMAGE, "as many blocks as the sparse file says"),

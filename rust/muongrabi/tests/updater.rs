@@ -17,31 +17,40 @@ fn name(letters: &str) -> String {
     digest(&blocks(letters)).iter().map(|byte| format!("{byte:02x}")).collect()
 }
 
-/// A stash, new data, a move over its own source, and what was stashed put back elsewhere.
+/// A stash, new data, a move over its own source, what was stashed put back elsewhere, and a patch.
 fn list() -> String {
-    let (a, bcd) = (name("A"), name("BCD"));
-    format!("3\n7\n1\n1\nstash {a} 2,0,1\nnew 4,0,1,7,8\nmove {bcd} 2,2,5 3 2,1,4\nmove {a} 2,6,7 1 - {a}:2,0,1\nfree {a}\nzero 2,1,2\n")
+    let (a, bcd, f, g) = (name("A"), name("BCD"), name("F"), name("G"));
+    let patch = format!("bsdiff 3 {} {f} {g} 2,5,6 1 2,5,6", BLOCK + 26);
+    format!("3\n8\n1\n1\nstash {a} 2,0,1\nnew 4,0,1,7,8\nmove {bcd} 2,2,5 3 2,1,4\nmove {a} 2,6,7 1 - {a}:2,0,1\nfree {a}\n{patch}\nzero 2,1,2\n")
 }
 
-const AFTER: &str = "p0BCDFAq";
+const AFTER: &str = "p0BCDGAq";
+
+/// Three bytes that no line names, and one record, which adds one to each byte of a block.
+fn patch() -> Vec<u8> {
+    let numbers = [BLOCK as u64, 0, 0].map(u64::to_le_bytes).concat();
+    [b"any", &b"CP"[..], &numbers, &[1; BLOCK]].concat()
+}
 
 struct Lent {
     image: Vec<u8>,
     stash: Vec<u8>,
     work: Vec<u8>,
+    result: Vec<u8>,
+    patch: Vec<u8>,
 }
 
 impl Lent {
     fn new() -> Lent {
-        Lent { image: blocks("ABCDEFGH"), stash: blocks("x"), work: blocks("uvw") }
+        Lent { image: blocks("ABCDEFGH"), stash: blocks("x"), work: blocks("uvw"), result: blocks("rs"), patch: patch() }
     }
 
     fn areas(&mut self) -> Areas<'_> {
-        Areas { image: &mut self.image, stash: &mut self.stash, work: &mut self.work }
+        Areas { image: &mut self.image, stash: &mut self.stash, work: &mut self.work, result: &mut self.result, patch: &self.patch }
     }
 
-    fn letters(&self) -> [String; 3] {
-        [&self.image, &self.stash, &self.work].map(|area| letters(area))
+    fn letters(&self) -> [String; 4] {
+        [&self.image, &self.stash, &self.work, &self.result].map(|area| letters(area))
     }
 }
 
@@ -50,9 +59,9 @@ fn each_area_is_lent_as_itself() {
     let (list, mut lent) = (list(), Lent::new());
     let mut updater = Updater::open(list.as_bytes(), lent.areas()).expect("a good list");
     assert_eq!(updater.write(&blocks("pqr")), Outcome::Done);
-    assert_eq!((updater.taken(), updater.state().line(), updater.state().at()), (2 * BLOCK as u64, 11, list.len()));
+    assert_eq!((updater.taken(), updater.state().line(), updater.state().at()), (2 * BLOCK as u64, 12, list.len()));
     assert_eq!(letters(updater.image()), AFTER);
-    assert_eq!(lent.letters(), [AFTER, "A", "ACD"]);
+    assert_eq!(lent.letters(), [AFTER, "A", "FCD", "Gs"]);
 }
 
 #[test]
@@ -86,7 +95,7 @@ fn a_run_goes_on_from_kept_fields() {
     let kept: Fields = updater.into_state().fields();
     assert_eq!((kept.count, kept.stashes[0].hash, kept.stashes[0].blocks), (1, digest(&blocks("A")), 1));
     assert_eq!((kept.line, kept.into, kept.list), (6, 5_000, list.len()));
-    assert_eq!(kept.lengths, Lengths { image: 8 * BLOCK, stash: BLOCK, work: 3 * BLOCK });
+    assert_eq!(kept.lengths, Lengths { image: 8 * BLOCK, stash: BLOCK, work: 3 * BLOCK, result: 2 * BLOCK, patch: BLOCK + 29 });
 
     let state = State::from(&kept);
     assert_eq!(state.fields(), kept);
@@ -97,14 +106,14 @@ fn a_run_goes_on_from_kept_fields() {
 
 #[test]
 fn every_field_crosses_as_itself() {
-    let mut fields = open(b"3\n0\n0\n0\n", Lengths { image: 0, stash: 0, work: 0 }).expect("a good list").fields();
+    let mut fields = open(b"3\n0\n0\n0\n", Lengths { image: 0, stash: 0, work: 0, result: 0, patch: 0 }).expect("a good list").fields();
     for (k, stash) in fields.stashes.iter_mut().enumerate() {
         stash.hash = [k as u8; 20];
         stash.blocks = 1_000 + k;
     }
     (fields.count, fields.line, fields.at, fields.into) = (1, 2, 3, 4);
     (fields.refusal, fields.list) = (Refusal::new(0, 6), 7);
-    fields.lengths = Lengths { image: 8, stash: 9, work: 10 };
+    fields.lengths = Lengths { image: 8, stash: 9, work: 10, result: 11, patch: 12 };
     let mut state = State::from(&fields);
     assert_eq!(state.refusal(), None);
     // It fits nothing, and comes back as it was.
@@ -112,10 +121,13 @@ fn every_field_crosses_as_itself() {
     let refused = Called { outcome: Outcome::Refused(Refusal::new(Refusal::STATE_IMPOSSIBLE, 0)), taken: 0 };
     assert_eq!(call(b"3\n0\n0\n0\n", lent.areas(), b"piece", &mut state), refused);
     assert_eq!(state.fields(), fields);
-    assert_eq!(lent.letters(), ["ABCDEFGH", "x", "uvw"]);
+    assert_eq!(lent.letters(), ["ABCDEFGH", "x", "uvw", "rs"]);
     // What it shows of itself has every field, and of the stashes those that there can be.
     let shown = format!("{state:?}");
-    for part in ["count: 1,", "line: 2,", "at: 3,", "into: 4,", "refusal: None", "list: 7,", "image: 8,", "stash: 9,", "work: 10 ", "blocks: 1000 "] {
+    for part in ["count: 1,", "line: 2,", "at: 3,", "into: 4,", "refusal: None", "list: 7,", "image: 8,", "stash: 9,", "work: 10,", "result: 11,"] {
+        assert!(shown.contains(part), "{part} in {shown}");
+    }
+    for part in ["patch: 12 ", "blocks: 1000 "] {
         assert!(shown.contains(part), "{part} in {shown}");
     }
     assert!(!shown.contains("blocks: 1001"), "{shown}");
@@ -138,7 +150,7 @@ fn refusals_stop_a_run_and_stay() {
     assert_eq!(updater.taken(), BLOCK as u64);
     assert_eq!(updater.write(&blocks("pq")), refused);
     assert_eq!((updater.taken(), updater.state().refusal()), (BLOCK as u64, Some(Refusal::new(16, 6))));
-    assert_eq!(lent.letters(), ["pBCDEFGH", "x", "Cvw"]);
+    assert_eq!(lent.letters(), ["pBCDEFGH", "x", "Cvw", "rs"]);
     // A refused opening changes nothing.
     let mut lent = Lent::new();
     let opened = Updater::open(b"3\n10\n0\n0\nnew 2,0,1\nzero 2,0,9\n", lent.areas()).map(|_| ());
@@ -146,19 +158,42 @@ fn refusals_stop_a_run_and_stay() {
     let (called, state) = run(b"3\n10\n0\n0\nnew 2,0,1\nzero 2,0,9\n", lent.areas(), &blocks("p"), &[]);
     assert_eq!(called, Called { outcome: Outcome::Refused(Refusal::new(8, 6)), taken: 0 });
     assert_eq!((state.refusal(), state.line(), state.fields().list), (Some(Refusal::new(8, 6)), 0, 0));
-    assert_eq!(lent.letters(), ["ABCDEFGH", "x", "uvw"]);
+    assert_eq!(lent.letters(), ["ABCDEFGH", "x", "uvw", "rs"]);
 }
 
 #[test]
 fn areas_of_other_lengths_are_refused() {
     let list = b"3\n1\n0\n0\nnew 2,0,1\n";
+    let other: [fn(&mut Lent); 3] = [|lent| lent.work.truncate(BLOCK), |lent| lent.result.truncate(BLOCK), |lent| lent.patch.truncate(1)];
+    for change in other {
+        let mut lent = Lent::new();
+        let state = open(list, lent.areas().lengths()).expect("a good list");
+        change(&mut lent);
+        let mut updater = Updater::resume(list, lent.areas(), state.clone());
+        assert_eq!(updater.write(&blocks("p")), Outcome::Refused(Refusal::new(17, 0)));
+        // 17 is not kept.
+        assert_eq!(updater.into_state(), state);
+    }
+}
+
+#[test]
+fn patches_are_refused_as_they_are() {
+    let line = |from: usize, bytes: usize, after: &str| format!("3\n1\n0\n0\nbsdiff {from} {bytes} {} {} 2,5,6 1 2,5,6\n", name("F"), name(after));
+    let refused = |number| Outcome::Refused(Refusal::new(number, 5));
+    // One byte past the patch data, a byte short, and another result.
     let mut lent = Lent::new();
-    let state = open(list, lent.areas().lengths()).expect("a good list");
-    lent.work.truncate(BLOCK);
-    let mut updater = Updater::resume(list, lent.areas(), state.clone());
-    assert_eq!(updater.write(&blocks("p")), Outcome::Refused(Refusal::new(17, 0)));
-    // 17 is not kept.
-    assert_eq!(updater.into_state(), state);
+    let opened = Updater::open(line(3, BLOCK + 27, "G").as_bytes(), lent.areas()).map(|_| ());
+    assert_eq!(opened, Err(Refusal::new(Refusal::PAST_PATCH, 5)));
+    for (list, number, work, result) in [
+        (line(3, BLOCK + 25, "G"), Refusal::PATCH_MALFORMED, "Fvw", "rs"),
+        (line(2, BLOCK + 26, "G"), Refusal::PATCH_MALFORMED, "Fvw", "rs"),
+        (line(3, BLOCK + 26, "H"), Refusal::HASH_DIFFERS, "Fvw", "Gs"),
+    ] {
+        let mut lent = Lent::new();
+        let mut updater = Updater::open(list.as_bytes(), lent.areas()).expect("a good list");
+        assert_eq!(updater.write(&[]), refused(number));
+        assert_eq!(lent.letters(), ["ABCDEFGH", "x", work, result]);
+    }
 }
 
 #[test]

@@ -1,4 +1,4 @@
-//! The rules of document 01, with of document 02, written twice, apart from the proved code: [`plain`] in plain loops, [`model`]
+//! The rules of document 01, with of document 02, written twice, apart from the proved code: [`plain`] in plain loops, [`model`]
 //! slowly and by other means. The limits, the types and SHA-1 are all that the two share.
 
 #![forbid(unsafe_code)]
@@ -15,6 +15,8 @@ pub const BLOCK: usize = 4_096;
 pub const MOST_IMAGE: usize = 1_048_576;
 /// Blocks of the largest stash area, and of the largest work area.
 pub const MOST_AREA: usize = 4_096;
+/// Blocks of the largest result area.
+pub const MOST_RESULT: usize = 4_096;
 /// Bytes of the longest list.
 pub const MOST_LIST: usize = 4_194_304;
 /// Stashes held at once.
@@ -30,6 +32,16 @@ pub struct Refusal {
     pub line: usize,
 }
 
+/// The lengths of what is lent beside the list, in bytes.
+#[derive(Clone, Copy, PartialEq, Eq, Debug, Default)]
+pub struct Rooms {
+    pub image: usize,
+    pub stash: usize,
+    pub work: usize,
+    pub result: usize,
+    pub patch: usize,
+}
+
 /// The lengths at opening, in bytes.
 #[derive(Clone, Copy, PartialEq, Eq, Debug)]
 pub struct Lengths {
@@ -37,6 +49,37 @@ pub struct Lengths {
     pub image: usize,
     pub stash: usize,
     pub work: usize,
+    pub result: usize,
+    pub patch: usize,
+}
+
+impl Lengths {
+    pub fn of(list: &[u8], rooms: Rooms) -> Lengths {
+        let Rooms { image, stash, work, result, patch } = rooms;
+        Lengths { list: list.len(), image, stash, work, result, patch }
+    }
+}
+
+/// What is lent beside the list: the areas that a run writes, and the patch data, which it reads.
+#[derive(Debug)]
+pub struct Areas<'a> {
+    pub image: &'a mut [u8],
+    pub stash: &'a mut [u8],
+    pub work: &'a mut [u8],
+    pub result: &'a mut [u8],
+    pub patch: &'a [u8],
+}
+
+impl Areas<'_> {
+    pub fn rooms(&self) -> Rooms {
+        let Areas { image, stash, work, result, patch } = self;
+        Rooms { image: image.len(), stash: stash.len(), work: work.len(), result: result.len(), patch: patch.len() }
+    }
+
+    /// The same areas, lent on for one call.
+    pub fn reborrow(&mut self) -> Areas<'_> {
+        Areas { image: self.image, stash: self.stash, work: self.work, result: self.result, patch: self.patch }
+    }
 }
 
 /// What a run carries from call to call. Stash k of `count`, oldest first: its hash at `hashes[20 * k..]`, its blocks in `sizes[k]`.
@@ -62,7 +105,7 @@ impl State {
         at: 0,
         into: 0,
         refusal: Refusal { number: 0, line: 0 },
-        lengths: Lengths { list: 0, image: 0, stash: 0, work: 0 },
+        lengths: Lengths { list: 0, image: 0, stash: 0, work: 0, result: 0, patch: 0 },
     };
 }
 

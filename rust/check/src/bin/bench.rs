@@ -1,14 +1,15 @@
 //! Times of the library beside the same work in plain Rust. The two sides take turns, and which is first changes from run to run, so
 //! that a slow phase of the machine meets both. Times are processor time, medians of nine runs; the ratio is the median of the nine runs'
 //! ratios, with the least and the greatest beside it.
-//! usage: bench [--self] [digest] [moves] [open] [new] [sparse]   (--self times plain Rust in the library's place; no words: all)
+//! usage: bench [--self] [digest] [moves] [patches] [open] [new] [sparse]   (--self times plain Rust in the library's place; no words: all)
 
+use check::generate::patch::{patch_of, Record};
 use check::generate::sparse::{Chunk, SparseFile, DONT_CARE, FILL, RAW};
 use check::generate::Rng;
 use check::library::outcome_of;
 use check::{hex, Implementation, Library, Plain};
 use muongrabi::{Areas, Lengths};
-use reference::{digest, plain, Hash, Outcome, BLOCK, MOST_LIST};
+use reference::{digest, plain, Hash, Outcome, Rooms, BLOCK, MOST_LIST};
 use std::hint::black_box;
 use std::time::Duration;
 
@@ -33,6 +34,9 @@ fn measure<S: Side>(wanted: impl Fn(&str) -> bool) {
     }
     if wanted("moves") {
         moves::<S>();
+    }
+    if wanted("patches") {
+        patches::<S>();
     }
     if wanted("open") {
         openings::<S>();
@@ -80,20 +84,27 @@ impl Side for Plain {
         digest(bytes)
     }
     fn open(list: &[u8], lengths: Lengths) -> Result<reference::State, usize> {
-        let state = plain::open(list, lengths.image, lengths.stash, lengths.work);
+        let state = plain::open(list, rooms(lengths));
         match state.refusal.number {
             0 => Ok(state),
             number => Err(number),
         }
     }
     fn call(list: &[u8], areas: Areas, piece: &[u8], state: &mut reference::State) -> (Outcome, usize) {
-        let answer = plain::call(list, areas.image, areas.stash, areas.work, piece, *state);
+        let Areas { image, stash, work, result, patch } = areas;
+        let answer = plain::call(list, reference::Areas { image, stash, work, result, patch }, piece, *state);
         *state = answer.state;
         (answer.outcome, answer.taken)
     }
     fn load_sparse(file: &[u8], image: &mut [u8]) -> Result<(), usize> {
         plain::load_sparse(file, image)
     }
+}
+
+/// Lengths as the reference has them.
+fn rooms(lengths: Lengths) -> Rooms {
+    let Lengths { image, stash, work, result, patch } = lengths;
+    Rooms { image, stash, work, result, patch }
 }
 
 /// The times of one side and of the other, run by run.
@@ -213,20 +224,99 @@ fn moves<S: Side>() {
     let (mut ours_work, mut plain_work) = (vec![0; PART * BLOCK], vec![0; PART * BLOCK]);
     let list = list.as_bytes();
     let times = turns(
-        || move_times::<S>(list, &start, Areas { image: &mut ours_image, stash: &mut [], work: &mut ours_work }),
-        || move_times::<Plain>(list, &start, Areas { image: &mut plain_image, stash: &mut [], work: &mut plain_work }),
+        || run_times::<S>(list, &start, Areas { image: &mut ours_image, stash: &mut [], work: &mut ours_work, result: &mut [], patch: &[] }),
+        || {
+            let areas = Areas { image: &mut plain_image, stash: &mut [], work: &mut plain_work, result: &mut [], patch: &[] };
+            run_times::<Plain>(list, &start, areas)
+        },
     );
     assert!(ours_image == plain_image && ours_image == image, "the images differ");
     line("2,000 moves of 16 blocks, opened and run", times, MOVES * PART * BLOCK);
 }
 
-/// Opens the list and runs it, from this image.
-fn move_times<S: Side>(list: &[u8], start: &[u8], mut areas: Areas) -> Duration {
+/// Opens the list and runs it to its end, from this image.
+fn run_times<S: Side>(list: &[u8], start: &[u8], areas: Areas) -> Duration {
+    run_to::<S>(0, list, start, areas)
+}
+
+/// Opens the list and runs it until it is refused with this number, or to its end for 0.
+fn run_to<S: Side>(number: usize, list: &[u8], start: &[u8], mut areas: Areas) -> Duration {
     areas.image.copy_from_slice(start);
     timed(|| {
-        let Ok(mut state) = S::open(list, areas.lengths()) else { panic!("the moves do not open") };
-        assert_eq!(S::call(list, areas.reborrow(), &[], &mut state).0, Outcome::Done);
+        let Ok(mut state) = S::open(list, areas.lengths()) else { panic!("the list does not open") };
+        let (outcome, _) = S::call(list, areas.reborrow(), &[], &mut state);
+        assert!(outcome.number() == number && outcome != Outcome::More);
     })
+}
+
+const PATCHES: usize = 500;
+
+/// A patch in records of so many add and extra bytes each, the last one shorter; positions keep step with the target.
+fn patch_in(source: &[u8], target: &[u8], add: usize, extra: usize) -> Vec<u8> {
+    let mut records = Vec::new();
+    for (k, part) in target.chunks(add + extra).enumerate() {
+        let at = k * (add + extra);
+        let (added, copied) = part.split_at(add.min(part.len()));
+        let add = added.iter().zip(&source[at..]).map(|(new, old)| new.wrapping_sub(*old)).collect();
+        records.push(Record { add, extra: copied.to_vec(), seek: copied.len() as i64 });
+    }
+    patch_of(&records)
+}
+
+/// Both hashes are in these times, as in every run of such a line; the last one is of reading records alone.
+fn patches<S: Side>() {
+    let blocks = 4_096;
+    let start = some_bytes(blocks * BLOCK);
+    let (mut ours_image, mut plain_image) = (start.clone(), start.clone());
+    let areas = || (vec![0; PART * BLOCK], vec![0; PART * BLOCK]);
+    let ((mut ours_work, mut ours_result), (mut plain_work, mut plain_result)) = (areas(), areas());
+    for (name, add, extra) in [("4,096 add bytes", 4_096, 0), ("64 add and 16 extra", 64, 16), ("4,096 extra bytes", 0, 4_096), ("1 add byte", 1, 0)]
+    {
+        let mut rng = Rng::new(6);
+        let mut image = start.clone();
+        let mut patch = Vec::new();
+        // Records of a byte take 27 times the target.
+        let lines = if add + extra == 1 { PATCHES / 10 } else { PATCHES };
+        let mut list = format!("3\n{}\n0\n0\n", lines * PART);
+        for _ in 0..lines {
+            let [from, like, to] = [(); 3].map(|()| rng.below(blocks - PART));
+            let [source, target] = [from, like].map(|at| image[at * BLOCK..(at + PART) * BLOCK].to_vec());
+            let records = patch_in(&source, &target, add, extra);
+            let hashes = format!("{} {}", hex(&digest(&source)), hex(&digest(&target)));
+            list += &format!("bsdiff {} {} {hashes} 2,{to},{} {PART} 2,{from},{}\n", patch.len(), records.len(), to + PART, from + PART);
+            patch.extend_from_slice(&records);
+            image[to * BLOCK..(to + PART) * BLOCK].copy_from_slice(&target);
+        }
+        let list = list.as_bytes();
+        let times = turns(
+            || {
+                let (work, result) = (&mut ours_work, &mut ours_result);
+                run_times::<S>(list, &start, Areas { image: &mut ours_image, stash: &mut [], work, result, patch: &patch })
+            },
+            || {
+                let (work, result) = (&mut plain_work, &mut plain_result);
+                run_times::<Plain>(list, &start, Areas { image: &mut plain_image, stash: &mut [], work, result, patch: &patch })
+            },
+        );
+        assert!(ours_image == plain_image && ours_image == image, "the images differ");
+        line(&format!("{lines} patches of 16 blocks, {name}"), times, lines * PART * BLOCK);
+    }
+
+    let nothing = hex(&digest(b""));
+    let patch = patch_of(&vec![Record { add: Vec::new(), extra: Vec::new(), seek: 1 }; 1_000_000]);
+    let list = format!("3\n1\n0\n0\nbsdiff 0 {} {nothing} {nothing} 2,0,1 0 2,0,0\n", patch.len());
+    let list = list.as_bytes();
+    let times = turns(
+        || {
+            let areas = Areas { image: &mut ours_image, stash: &mut [], work: &mut ours_work, result: &mut ours_result, patch: &patch };
+            run_to::<S>(19, list, &start, areas)
+        },
+        || {
+            let areas = Areas { image: &mut plain_image, stash: &mut [], work: &mut plain_work, result: &mut plain_result, patch: &patch };
+            run_to::<Plain>(19, list, &start, areas)
+        },
+    );
+    line("a patch of 1,000,000 records, refused", times, patch.len());
 }
 
 /// The bytes of the longest header: the version, and three numbers of ten digits.
@@ -250,9 +340,8 @@ fn fill_list(stashes: usize, held: usize, first: &str, mut next: impl FnMut(usiz
 
 /// An opening that is short is repeated, so that a run takes a millisecond at least.
 fn opening<S: Side>(name: &str, list: &[u8], lengths: Lengths, wanted: usize) {
-    let Lengths { image, stash, work } = lengths;
-    let state = Plain.open(list, image, stash, work);
-    assert_eq!(Library.open(list, image, stash, work), state);
+    let state = Plain.open(list, rooms(lengths));
+    assert_eq!(Library.open(list, rooms(lengths)), state);
     assert_eq!(state.refusal.number, wanted, "{name} at line {}", state.refusal.line);
     let repeats = (1_000_000 / open_times::<Plain>(list, lengths, 1).as_nanos().max(1) as u32).max(1);
     let times = turns(|| open_times::<S>(list, lengths, repeats), || open_times::<Plain>(list, lengths, repeats));
@@ -266,7 +355,7 @@ fn open_times<S: Side>(list: &[u8], lengths: Lengths, repeats: u32) -> Duration 
 fn openings<S: Side>() {
     let mut rng = Rng::new(4);
     let image = 524_288;
-    let areas = Lengths { image: image * BLOCK, stash: 4_096 * BLOCK, work: 4_096 * BLOCK };
+    let areas = Lengths { image: image * BLOCK, stash: 4_096 * BLOCK, work: 4_096 * BLOCK, result: 4_096 * BLOCK, patch: 1 << 30 };
     let name = |k: usize| hex(&digest(&k.to_le_bytes()));
 
     // What builders write: moves, some stashes with the moves that use them, erased and zeroed ranges.
@@ -301,6 +390,14 @@ fn openings<S: Side>() {
         (0, format!("stash {h} 2,0,0\nfree {h}\n"))
     });
     opening::<S>("a list full of hashes", &hashes, areas, 0);
+
+    let patched = fill_list(0, 0, "", |k| {
+        let n = rng.between(1, 60);
+        let (to, from) = (rng.below(image - n), rng.below(image - n));
+        let (h, t) = (&names[k % names.len()], &names[(k + 1) % names.len()]);
+        (n, format!("bsdiff {} {} {h} {t} 2,{to},{} {n} 2,{from},{}\n", k * 5_000, n * 4_000, to + n, from + n))
+    });
+    opening::<S>("4 MiB of bsdiff lines", &patched, areas, 0);
 
     let h = name(0);
     let one = format!("stash {h} 2,0,1\n");
@@ -345,7 +442,7 @@ fn new_data<S: Side>() {
 
 /// A call for each piece; the opening is not timed.
 fn new_times<'a, S: Side>(list: &[u8], image: &mut [u8], pieces: impl Iterator<Item = &'a [u8]>) -> Duration {
-    let mut areas = Areas { image, stash: &mut [], work: &mut [] };
+    let mut areas = Areas { image, stash: &mut [], work: &mut [], result: &mut [], patch: &[] };
     let Ok(mut state) = S::open(list, areas.lengths()) else { panic!("the list does not open") };
     timed(|| {
         for piece in pieces {

@@ -1,10 +1,10 @@
-//! Cases made apart from the project, through the library and both implementations of the reference: openings, sequences of calls with
-//! everything that stands after each, and sparse files with the image before and after.
+//! Cases made apart from the project, through the library and both implementations of the reference: openings, single calls and sequences of
+//! calls with everything that stands after each, and sparse files with the image before and after.
 //! usage: tests/unpack CASES | cases
 
 use check::record::{Read, Record};
 use check::{hex, Implementation, Library, Model, Plain};
-use reference::{Refusal, State};
+use reference::{Areas, Refusal, Rooms, State};
 use std::fmt::Debug;
 use std::io::Read as _;
 
@@ -36,6 +36,7 @@ fn main() {
 fn agrees(case: &Record, on: &dyn Implementation) -> Read<()> {
     match case.text("kind") {
         Ok("open") => opening(case, on),
+        Ok("call") => one_call(case, on),
         Ok("seq") => sequence(case, on),
         Ok(other) => Err(format!("{other} is no kind of case")),
         // Those of sparse files have none.
@@ -59,17 +60,59 @@ fn named(mut state: State) -> State {
 
 fn opening(case: &Record, on: &dyn Implementation) -> Read<()> {
     let list = case.bytes("list")?;
-    let state = on.open(&list, case.number("image_len")?, case.number("stash_len")?, case.number("work_len")?);
+    let of = |name: &str| case.number(name);
+    let (image, stash, work) = (of("image_len")?, of("stash_len")?, of("work_len")?);
+    let state = on.open(&list, Rooms { image, stash, work, result: of("result_len")?, patch: of("patch_len")? });
     if case.text("expect") == Ok("ok") {
         return same("the refusal", state.refusal, Refusal { number: 0, line: 0 });
     }
     same("a refused opening's state", state, State { refusal: case.refusal("expect", 0)?, ..State::ZERO })
 }
 
+/// What a case lends beside the list.
+struct Lent {
+    image: Vec<u8>,
+    stash: Vec<u8>,
+    work: Vec<u8>,
+    result: Vec<u8>,
+    patch: Vec<u8>,
+}
+
+impl Lent {
+    fn of(case: &Record) -> Read<Lent> {
+        let (image, stash, work) = (case.bytes("image")?, case.bytes("stash")?, case.bytes("work")?);
+        Ok(Lent { image, stash, work, result: case.bytes("result")?, patch: case.bytes("patch")? })
+    }
+
+    fn areas(&mut self) -> Areas<'_> {
+        let Lent { image, stash, work, result, patch } = self;
+        Areas { image, stash, work, result, patch }
+    }
+
+    /// The areas that are written.
+    fn written(&self) -> [(&str, &[u8]); 4] {
+        [("image", &self.image), ("stash", &self.stash), ("work", &self.work), ("result", &self.result)]
+    }
+}
+
+/// A call from any state, and all bytes after it.
+fn one_call(case: &Record, on: &dyn Implementation) -> Read<()> {
+    let (list, piece) = (case.bytes("list")?, case.bytes("piece")?);
+    let mut lent = Lent::of(case)?;
+    let answer = on.call(&list, lent.areas(), &piece, case.state("state")?);
+    same("the outcome", answer.outcome, case.outcome("outcome")?)?;
+    same("what is taken", answer.taken, case.number("taken")?)?;
+    same("the state after it", named(answer.state), case.state("state_after")?)?;
+    for (name, area) in lent.written() {
+        same_bytes(name, area, &case.bytes(&format!("{name}_after"))?)?;
+    }
+    same_bytes("patch", &lent.patch, &case.bytes("patch")?)
+}
+
 fn sequence(case: &Record, on: &dyn Implementation) -> Read<()> {
     let (list, new) = (case.bytes("list")?, case.bytes("new")?);
-    let (mut image, mut stash, mut work) = (case.bytes("image")?, case.bytes("stash")?, case.bytes("work")?);
-    let mut state = on.open(&list, image.len(), stash.len(), work.len());
+    let mut lent = Lent::of(case)?;
+    let mut state = on.open(&list, lent.areas().rooms());
     same("the opening's state", state, case.state("state")?)?;
     let mut rest = &new[..];
     let mut cuts = case.row("cuts")?;
@@ -78,14 +121,15 @@ fn sequence(case: &Record, on: &dyn Implementation) -> Read<()> {
         let (piece, after) = rest.split_at(cut.min(rest.len()));
         rest = after;
         let of = |name: &str| format!("{step}.{name}");
-        let answer = on.call(&list, &mut image, &mut stash, &mut work, piece, state);
+        let answer = on.call(&list, lent.areas(), piece, state);
         state = answer.state;
         same(&of("outcome"), answer.outcome, case.outcome(&of("outcome"))?)?;
         same(&of("taken"), answer.taken, case.number(&of("taken"))?)?;
         same(&of("state"), named(state), case.state(&of("state"))?)?;
-        for (name, area) in [("image", &image), ("stash", &stash), ("work", &work)] {
+        for (name, area) in lent.written() {
             same(&of(name), hex(&on.digest(area)).as_str(), case.text(&of(name))?)?;
         }
+        same_bytes("patch", &lent.patch, &case.bytes("patch")?)?;
     }
     match cuts.next() {
         Some(_) => Err("more cuts than steps".into()),
@@ -110,13 +154,13 @@ fn sparse(case: &Record, on: &dyn Implementation) -> Read<()> {
     let kept = if before == "image" { image.clone() } else { Vec::new() };
     same("the number", on.load_sparse(&file, &mut image).err().unwrap_or(0), number)?;
     match (before, after) {
-        ("image", None) => same_image(&image, &kept),
-        ("image", Some(after)) => same_image(&image, &case.bytes(after)?),
+        ("image", None) => same_bytes("image", &image, &kept),
+        ("image", Some(after)) => same_bytes("image", &image, &case.bytes(after)?),
         (_, after) => {
             for change in after.map_or(Ok(None), |after| case.row(after).map(Some))?.into_iter().flatten() {
                 let (at, bytes): (usize, Vec<u8>) = (case.number(&format!("{change}.0"))?, case.bytes(&format!("{change}.1"))?);
                 let there = at.checked_add(bytes.len()).and_then(|end| image.get_mut(at..end)).ok_or("a change past the image")?;
-                same_image(there, &bytes)?;
+                same_bytes("image", there, &bytes)?;
                 there.fill(0);
             }
             // The rest, by blocks: it may be larger than what memory has for a second one.
@@ -126,10 +170,10 @@ fn sparse(case: &Record, on: &dyn Implementation) -> Read<()> {
     }
 }
 
-fn same_image(got: &[u8], expected: &[u8]) -> Read<()> {
-    same("the image's length", got.len(), expected.len())?;
+fn same_bytes(name: &str, got: &[u8], expected: &[u8]) -> Read<()> {
+    same(&format!("the length of {name}"), got.len(), expected.len())?;
     match got.iter().zip(expected).position(|(a, b)| a != b) {
-        Some(at) => Err(format!("the image differs at byte {at}")),
+        Some(at) => Err(format!("{name} differs at byte {at}")),
         None => Ok(()),
     }
 }

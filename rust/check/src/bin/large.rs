@@ -1,17 +1,18 @@
 //! Real sizes: an image of 65,536 blocks, thousands of commands, stashes of thousands of blocks and a list of several MiB,
-//! the library compared with the plain implementation after every call; then positions at the far end of the largest image, and sparse files
-//! over large images.
+//! the library compared with the plain implementation after every call; then positions at the far end of the largest image and of patch data
+//! past 32 bits, patches of the largest areas, and sparse files over large images.
 //! usage: large [--seed S] [--commands N] [--self]   (--self takes the slow model in the library's place)
 
+use check::generate::patch::{patch_of, Record};
 use check::generate::sparse::{Chunk, SparseFile, DONT_CARE, FILL, RAW};
 use check::generate::{Blocks, Rng, Sizes, World};
-use check::{Implementation, Library, Model, Plain};
-use reference::{plain, Answer, Outcome, State, BLOCK, MOST_IMAGE};
+use check::{hex, Implementation, Library, Model, Plain};
+use reference::{digest, plain, Answer, Areas, Outcome, Rooms, State, BLOCK, MOST_AREA, MOST_IMAGE, MOST_RESULT};
 use std::time::{Duration, Instant};
 
 fn main() {
     let mut seed = 1u64;
-    let mut commands = 6_000usize;
+    let mut commands = 9_000usize;
     let mut itself = false;
     let mut words = std::env::args().skip(1);
     while let Some(word) = words.next() {
@@ -25,7 +26,15 @@ fn main() {
     }
     let other: &dyn Implementation = if itself { &Model } else { &Library };
     println!("seed {seed}");
-    let results = [real(other, seed, commands), far_end(other, !itself), sparse(other, seed), sparse_far_end(other, !itself), sparse_claims(other)];
+    let results = [
+        real(other, seed, commands),
+        far_end(other, !itself),
+        largest_patch(other),
+        patch_far_end(other, !itself),
+        sparse(other, seed),
+        sparse_far_end(other, !itself),
+        sparse_claims(other),
+    ];
     let failed = results.iter().filter(|result| result.is_err()).count();
     for difference in results.iter().filter_map(|result| result.as_ref().err()) {
         println!("{difference}");
@@ -42,35 +51,40 @@ fn usage() -> ! {
 fn real(other: &dyn Implementation, seed: u64, commands: usize) -> Result<(), String> {
     let mut rng = Rng::new(seed);
     let mut blocks = Blocks::new();
-    let sizes = Sizes { image: 65_536, area: 4_096, commands, most: 4_096, bytes: 4_100_000 };
+    let sizes = Sizes { image: 65_536, area: 4_096, commands, most: 4_096, bytes: 4_100_000, patch: 48 << 20 };
     let mut world = World::good(&mut rng, &mut blocks, &sizes);
-    (world.stash, world.work) = (4_096, 4_096);
+    (world.stash, world.work, world.result) = (4_096, 4_096, 4_096);
     let list = world.list();
     let data = blocks.lay(&world.data);
     println!(
-        "image 65,536 blocks, list {} bytes, {} commands, most held {} in {} blocks, new data {} blocks",
+        "image 65,536 blocks, list {} bytes, {} commands, most held {} in {} blocks, new data {} blocks, patch data {} bytes",
         list.len(),
         world.commands.len(),
         world.header[2],
         world.header[3],
-        world.data.len()
+        world.data.len(),
+        world.patch.len()
     );
     let mut image = blocks.lay(&world.image);
     let mut stash = vec![0x5a; world.stash * BLOCK];
     let mut work = vec![0xa5; world.work * BLOCK];
-    let (mut other_image, mut other_stash, mut other_work) = (image.clone(), stash.clone(), work.clone());
+    let mut result = vec![0x3c; world.result * BLOCK];
+    let (mut other_image, mut other_stash, mut other_work, mut other_result) = (image.clone(), stash.clone(), work.clone(), result.clone());
+    let mut ours = Areas { image: &mut image, stash: &mut stash, work: &mut work, result: &mut result, patch: &world.patch };
+    let patch = &world.patch;
+    let mut theirs = Areas { image: &mut other_image, stash: &mut other_stash, work: &mut other_work, result: &mut other_result, patch };
     // A call takes long enough here that the library's states, which are converted for it, do not show in its time.
     let mut times = [Duration::ZERO; 2];
     let mut timed = |which: usize, start: Instant| times[which] += start.elapsed();
 
     let start = Instant::now();
-    let mut state = plain::open(&list, image.len(), stash.len(), work.len());
+    let mut state = plain::open(&list, ours.rooms());
     timed(0, start);
     let start = Instant::now();
-    let theirs = other.open(&list, image.len(), stash.len(), work.len());
+    let opened = other.open(&list, ours.rooms());
     timed(1, start);
-    if state != theirs || state.refusal.number != 0 {
-        return Err(format!("open: {:?} and {:?}", state.refusal, theirs.refusal));
+    if state != opened || state.refusal.number != 0 {
+        return Err(format!("open: {:?} and {:?}", state.refusal, opened.refusal));
     }
     let mut rest = &data[..];
     let mut calls = 0;
@@ -79,22 +93,22 @@ fn real(other: &dyn Implementation, seed: u64, commands: usize) -> Result<(), St
         rest = after;
         calls += 1;
         let start = Instant::now();
-        let ours = plain::call(&list, &mut image, &mut stash, &mut work, piece, state);
+        let answer = plain::call(&list, ours.reborrow(), piece, state);
         timed(0, start);
         let start = Instant::now();
-        let theirs = other.call(&list, &mut other_image, &mut other_stash, &mut other_work, piece, state);
+        let others = other.call(&list, theirs.reborrow(), piece, state);
         timed(1, start);
-        if ours != theirs {
-            return Err(format!("call {calls}: {} and {}", said(&ours), said(&theirs)));
+        if answer != others {
+            return Err(format!("call {calls}: {} and {}", said(&answer), said(&others)));
         }
-        if image != other_image || stash != other_stash || work != other_work {
+        if ours.image != theirs.image || ours.stash != theirs.stash || ours.work != theirs.work || ours.result != theirs.result {
             return Err(format!("call {calls}: an area differs"));
         }
-        state = ours.state;
-        match ours.outcome {
+        state = answer.state;
+        match answer.outcome {
             Outcome::Done => break,
             Outcome::More => {}
-            Outcome::Refused(_) => return Err(format!("call {calls}: {}", said(&ours))),
+            Outcome::Refused(_) => return Err(format!("call {calls}: {}", said(&answer))),
         }
     }
     println!("done in {calls} calls; plain {:.2} s, other {:.2} s", times[0].as_secs_f64(), times[1].as_secs_f64());
@@ -121,7 +135,7 @@ fn far_end(other: &dyn Implementation, fast: bool) -> Result<(), String> {
         for on in all {
             // Zeroed memory that is mapped only where it is touched.
             let mut image = vec![0u8; most];
-            let mut state = on.open(list, most, 0, 0);
+            let mut state = on.open(list, Rooms { image: most, ..Rooms::default() });
             if most > whole {
                 if state.refusal.number != 1 {
                     return Err(format!("an image of {most} bytes: {:?}", state.refusal));
@@ -130,7 +144,8 @@ fn far_end(other: &dyn Implementation, fast: bool) -> Result<(), String> {
                 (state.lengths.list, state.lengths.image) = (list.len(), most);
             }
             state.into = into;
-            let answer = on.call(list, &mut image, &mut [], &mut [], b"0123456789", state);
+            let areas = Areas { image: &mut image, stash: &mut [], work: &mut [], result: &mut [], patch: &[] };
+            let answer = on.call(list, areas, b"0123456789", state);
             let touched: Vec<u8> = [&image[..BLOCK], &image[whole - BLOCK..whole]].concat();
             ends.push((answer, touched));
         }
@@ -142,6 +157,76 @@ fn far_end(other: &dyn Implementation, fast: bool) -> Result<(), String> {
         }
     }
     println!("the far end of 1,048,576 blocks is reached");
+    Ok(())
+}
+
+/// A patch of one stretch over the largest work and result areas, one of records of a byte, and one of a result that is a byte too long.
+fn largest_patch(other: &dyn Implementation) -> Result<(), String> {
+    let (work, result) = (MOST_AREA * BLOCK, MOST_RESULT * BLOCK);
+    let image: Vec<u8> = (0..work).map(|k| (k % 253) as u8).collect();
+    let target: Vec<u8> = (0..result).map(|k| (k * 7 % 255) as u8).collect();
+    let add: Vec<u8> = target.iter().zip(&image).map(|(new, old)| new.wrapping_sub(*old)).collect();
+    let whole = Record { add: add.clone(), extra: Vec::new(), seek: 0 };
+    let rest = Record { add: add[9_000..].to_vec(), extra: Vec::new(), seek: 0 };
+    let single = |k: usize| Record { add: vec![add[k]], extra: Vec::new(), seek: 0 };
+    let longer = Record { extra: vec![9], ..whole.clone() };
+    for (name, records, want) in
+        [("one record", vec![whole], 0), ("9,001 records", (0..9_000).map(single).chain([rest]).collect(), 0), ("a byte too long", vec![longer], 19)]
+    {
+        let patch = patch_of(&records);
+        let list = format!("3\n4096\n0\n0\nbsdiff 0 {} {} {} 2,0,4096 4096 2,0,4096\n", patch.len(), hex(&digest(&image)), hex(&digest(&target)));
+        let mut ends = Vec::new();
+        for on in [&Plain, other] {
+            let (mut now, mut work, mut result) = (image.clone(), vec![1; work], vec![2; result]);
+            let areas = Areas { image: &mut now, stash: &mut [], work: &mut work, result: &mut result, patch: &patch };
+            let answer = on.run(list.as_bytes(), areas, b"", &[]);
+            let good = match want {
+                0 => now == target && result == target && work == image,
+                _ => now == image && result.iter().all(|byte| *byte == 2) && work == image,
+            };
+            if answer.outcome.number() != want || !good {
+                return Err(format!("a patch of {name}: {}, areas as they should be: {good}", said(&answer)));
+            }
+            ends.push(answer);
+        }
+        if ends[0] != ends[1] {
+            return Err(format!("a patch of {name}: {} and {}", said(&ends[0]), said(&ends[1])));
+        }
+    }
+    println!("patches over 4,096 blocks of source and of target");
+    Ok(())
+}
+
+/// Patches at O and O plus B past 32 bits, of patch data that is zeros elsewhere, and mapped only where it is touched.
+fn patch_far_end(other: &dyn Implementation, fast: bool) -> Result<(), String> {
+    let most = u32::MAX as usize;
+    let records = patch_of(&[Record { add: vec![1; BLOCK], extra: Vec::new(), seek: 7 }]);
+    let mut patch = vec![0u8; most + records.len()];
+    patch[most..].copy_from_slice(&records);
+    let (before, after) = (vec![b'A'; BLOCK], vec![b'B'; BLOCK]);
+    let hashes = format!("{} {}", hex(&digest(&before)), hex(&digest(&after)));
+    for (from, bytes, want) in [
+        (most, records.len(), 0),
+        (most, records.len() + 1, 18),
+        (most, most, 18),
+        // The same modulo 2^32.
+        (most, 0, 19),
+        (most - 1, records.len() + 1, 19),
+        (records.len(), most, 19),
+        (records.len() + 1, most, 18),
+    ] {
+        let list = format!("3\n1\n0\n0\nbsdiff {from} {bytes} {hashes} 2,0,1 1 2,0,1\n");
+        let all: Vec<&dyn Implementation> = if fast { vec![&Plain, other] } else { vec![&Plain] };
+        for on in all {
+            let (mut image, mut work, mut result) = (before.clone(), vec![1; BLOCK], vec![2; BLOCK]);
+            let areas = Areas { image: &mut image, stash: &mut [], work: &mut work, result: &mut result, patch: &patch };
+            let answer = on.run(list.as_bytes(), areas, b"", &[]);
+            if answer.outcome.number() != want || image != if want == 0 { &after[..] } else { &before[..] } {
+                return Err(format!("a patch at {from}, {bytes} bytes: {}", said(&answer)));
+            }
+        }
+    }
+    println!("patches past the 4,294,967,295th byte");
     Ok(())
 }
 

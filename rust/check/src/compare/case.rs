@@ -18,18 +18,23 @@ impl Checker<'_> {
         }
         let sizes = any_sizes(&mut rng);
         let world = World::good(&mut rng, &mut self.blocks, &sizes);
-        let list = any_list(&mut rng, &world);
-        let lent = Lent {
+        let (list, patch) = any_list(&mut rng, &world);
+        let mut lent = Lent {
             list,
             image: self.blocks.lay(&world.image),
             stash: self.blocks.lay(&(0..world.stash).map(|k| 230 + k as u8 % 20).collect::<Vec<_>>()),
             work: self.blocks.lay(&(0..world.work).map(|k| 210 + k as u8 % 20).collect::<Vec<_>>()),
+            result: self.blocks.lay(&(0..world.result).map(|k| 190 + k as u8 % 20).collect::<Vec<_>>()),
+            patch,
         };
-        let lengths = (lent.image.len(), lent.stash.len(), lent.work.len());
+        if rng.one_in(60) {
+            other_rooms(&mut rng, &mut lent);
+        }
+        let rooms = lent.rooms();
         if rng.one_in(30) {
             self.odd_lengths(&mut rng, &lent)?;
         }
-        let mut state = self.open(&lent.list, lengths.0, lengths.1, lengths.2)?;
+        let mut state = self.open(&lent.list, rooms)?;
         let accepted = state.refusal.number == 0;
         if !accepted {
             match rng.below(10) {
@@ -37,7 +42,7 @@ impl Checker<'_> {
                 2..=8 => {
                     // Run it all the same, as if it had been altered after opening.
                     let starts = line_starts(&lent.list);
-                    state = plain::open(&world.list(), lengths.0, lengths.1, lengths.2);
+                    state = plain::open(&world.list(), rooms);
                     state.lengths.list = lent.list.len();
                     if rng.percent(80) {
                         state.at = starts.get(4).copied().unwrap_or(state.at);
@@ -112,10 +117,12 @@ impl Checker<'_> {
         let Some(mut last) = last else { return Ok(()) };
         last.taken = taken;
         let mut fresh = lent.clone();
-        let whole = model::call(&fresh.list, &mut fresh.image, &mut fresh.stash, &mut fresh.work, &pieces.data[..joined], opened);
+        let (list, areas) = fresh.areas();
+        let whole = model::call(list, areas, &pieces.data[..joined], opened);
         self.coverage.sequences += 1;
         // Once refused, the taken bytes and the state agree too: the refusal stands at the same line.
-        if whole != last || fresh.image != now.image || fresh.stash != now.stash || fresh.work != now.work {
+        let areas_differ = fresh.image != now.image || fresh.stash != now.stash || fresh.work != now.work || fresh.result != now.result;
+        if whole != last || areas_differ {
             return Err(format!("the calls end otherwise than the model: {} and {}", answer_text(&last), answer_text(&whole)));
         }
         if rng.percent(60) {
@@ -125,9 +132,22 @@ impl Checker<'_> {
     }
 }
 
-/// Alters the state, the list or an area's length between two calls.
+/// A byte or a block more or less, or fewer blocks.
+fn other_length(rng: &mut Rng, old: usize) -> usize {
+    let fewer = rng.below(old / BLOCK + 1) * BLOCK;
+    rng.pick(&[old + 1, old.saturating_sub(1), old + BLOCK, old.saturating_sub(BLOCK), 0, fewer, fewer])
+}
+
+/// A result area or patch data of another length than the list needs.
+fn other_rooms(rng: &mut Rng, lent: &mut Lent) {
+    let area = if rng.percent(50) { &mut lent.result } else { &mut lent.patch };
+    let new = other_length(rng, area.len());
+    area.resize(new, 0x43);
+}
+
+/// Alters the state, the list, the patch data or an area's length between two calls.
 fn alter(rng: &mut Rng, world: &World, lent: &mut Lent, state: &mut State) {
-    match rng.below(14) {
+    match rng.below(17) {
         0..=6 => {
             for _ in 0..rng.pick(&[1, 1, 2, 3]) {
                 disturb(rng, state, &lent.list);
@@ -153,25 +173,36 @@ fn alter(rng: &mut Rng, world: &World, lent: &mut Lent, state: &mut State) {
                 let mut spoiled = world.clone();
                 spoiled.spoil(rng);
                 lent.list = spoiled.list();
+                // Its patch data where the length is the same.
+                if spoiled.patch.len() == lent.patch.len() {
+                    lent.patch = spoiled.patch;
+                }
             }
             if rng.percent(70) && state.lengths.list == before {
                 state.lengths.list = lent.list.len();
             }
         }
-        10 | 11 => {
+        10..=12 => {
             // An area of another length, mostly with that length in the state.
             let known = rng.percent(60);
-            let (area, length) = match rng.below(4) {
-                0 | 3 => (&mut lent.image, &mut state.lengths.image),
-                1 => (&mut lent.stash, &mut state.lengths.stash),
-                _ => (&mut lent.work, &mut state.lengths.work),
+            let (area, length) = match rng.below(8) {
+                0 | 1 => (&mut lent.image, &mut state.lengths.image),
+                2 => (&mut lent.stash, &mut state.lengths.stash),
+                3 => (&mut lent.work, &mut state.lengths.work),
+                4 | 5 => (&mut lent.result, &mut state.lengths.result),
+                _ => (&mut lent.patch, &mut state.lengths.patch),
             };
-            let old = area.len();
-            let fewer = rng.below(old / BLOCK + 1) * BLOCK;
-            let new = rng.pick(&[old + 1, old.saturating_sub(1), old + BLOCK, old.saturating_sub(BLOCK), 0, fewer, fewer]);
+            let new = other_length(rng, area.len());
             area.resize(new, 0xaa);
             if known {
                 *length = new;
+            }
+        }
+        13 => {
+            // Other bytes in the patch data, which no state shows.
+            if !lent.patch.is_empty() {
+                let k = rng.below(lent.patch.len());
+                lent.patch[k] ^= 1 << rng.below(8);
             }
         }
         _ => {
@@ -196,10 +227,14 @@ fn any_sizes(rng: &mut Rng) -> Sizes {
     }
 }
 
-/// The world's list, in a third of all cases as it is, else spoiled.
-fn any_list(rng: &mut Rng, world: &World) -> Vec<u8> {
+/// The world's list and patch data, in a third of all cases as they are, else spoiled.
+fn any_list(rng: &mut Rng, world: &World) -> (Vec<u8>, Vec<u8>) {
     let kind = rng.below(100);
     let mut world = world.clone();
+    if world.has_patch() && rng.one_in(3) {
+        world.spoil_patch(rng);
+        return (world.list(), world.patch);
+    }
     match kind {
         0..=34 | 65..=82 => {}
         35..=64 => (0..rng.pick(&[1, 1, 1, 2, 3])).for_each(|_| world.spoil(rng)),
@@ -210,5 +245,5 @@ fn any_list(rng: &mut Rng, world: &World) -> Vec<u8> {
     if let 65..=85 = kind {
         damage(rng, &mut list);
     }
-    list
+    (list, world.patch)
 }

@@ -8,7 +8,7 @@ use crate::coverage::Coverage;
 use crate::generate::{Blocks, Pieces};
 use crate::guard::Guarded;
 use crate::{hex, Implementation};
-use reference::{plain, Answer, Lengths, State, BLOCK};
+use reference::{plain, Answer, Areas, Rooms, State, BLOCK};
 pub use sparse::SparseChecker;
 use std::fmt::Write;
 
@@ -30,6 +30,27 @@ struct Lent {
     image: Vec<u8>,
     stash: Vec<u8>,
     work: Vec<u8>,
+    result: Vec<u8>,
+    patch: Vec<u8>,
+}
+
+impl Lent {
+    /// The list, and what is lent beside it.
+    fn areas(&mut self) -> (&[u8], Areas<'_>) {
+        let Lent { list, image, stash, work, result, patch } = self;
+        (list, Areas { image, stash, work, result, patch })
+    }
+
+    fn rooms(&self) -> Rooms {
+        let Lent { image, stash, work, result, patch, .. } = self;
+        Rooms { image: image.len(), stash: stash.len(), work: work.len(), result: result.len(), patch: patch.len() }
+    }
+
+    fn text(&self) -> String {
+        let named = [("list", &self.list), ("image", &self.image), ("stash", &self.stash), ("work", &self.work), ("result", &self.result)];
+        let each: Vec<String> = named.into_iter().chain([("patch", &self.patch)]).map(|(name, bytes)| format!("{name} {}", hex(bytes))).collect();
+        each.join("\n  ")
+    }
 }
 
 /// The other implementation, with its own copy of everything lent, between guards.
@@ -39,6 +60,8 @@ pub struct Checker<'a> {
     image: Guarded,
     stash: Guarded,
     work: Guarded,
+    result: Guarded,
+    patch: Guarded,
     piece: Guarded,
     behind: bool,
     blocks: Blocks,
@@ -48,13 +71,13 @@ pub struct Checker<'a> {
 
 fn state_text(state: &State) -> String {
     format!(
-        "count {} line {} at {} into {} refusal {:?} lengths {:?}\n    sizes {:?}\n    hashes {}",
+        "count {} line {} at {} into {} refusal {:?} {:?}\n    sizes {:?}\n    hashes {}",
         state.count,
         state.line,
         state.at,
         state.into,
         (state.refusal.number, state.refusal.line),
-        (state.lengths.list, state.lengths.image, state.lengths.stash, state.lengths.work),
+        state.lengths,
         state.sizes,
         hex(&state.hashes)
     )
@@ -101,6 +124,8 @@ impl<'a> Checker<'a> {
             image: room(),
             stash: room(),
             work: room(),
+            result: room(),
+            patch: room(),
             piece: room(),
             behind: true,
             blocks: Blocks::new(),
@@ -116,15 +141,15 @@ impl<'a> Checker<'a> {
         }
     }
 
-    fn open(&mut self, list: &[u8], image: usize, stash: usize, work: usize) -> Result<State, String> {
+    fn open(&mut self, list: &[u8], rooms: Rooms) -> Result<State, String> {
         self.list.set(list, self.behind);
-        let ours = plain::open(list, image, stash, work);
-        let theirs = self.other.open(self.list.bytes(), image, stash, work);
-        self.coverage.open(&ours);
+        let ours = plain::open(list, rooms);
+        let theirs = self.other.open(self.list.bytes(), rooms);
+        self.coverage.open(list, rooms, &ours);
         self.note(|| {
             let text = String::from_utf8_lossy(list).to_string();
             format!(
-                "open: image {image} stash {stash} work {work}\n  list, {} bytes, {}\n{text}\n  plain: {}\n  other: {}",
+                "open: {rooms:?}\n  list, {} bytes, {}\n{text}\n  plain: {}\n  other: {}",
                 list.len(),
                 hex(list),
                 state_text(&ours),
@@ -142,40 +167,41 @@ impl<'a> Checker<'a> {
         self.image.set(&lent.image, self.behind);
         self.stash.set(&lent.stash, self.behind);
         self.work.set(&lent.work, self.behind);
+        self.result.set(&lent.result, self.behind);
+        self.patch.set(&lent.patch, self.behind);
+    }
+
+    /// What the other implementation is lent: list, areas and piece.
+    fn others(&mut self) -> (&dyn Implementation, &[u8], Areas<'_>, &[u8]) {
+        let Checker { other, list, image, stash, work, result, patch, piece, .. } = self;
+        let areas =
+            Areas { image: image.bytes_mut(), stash: stash.bytes_mut(), work: work.bytes_mut(), result: result.bytes_mut(), patch: patch.bytes() };
+        (*other, list.bytes(), areas, piece.bytes())
     }
 
     fn call(&mut self, lent: &mut Lent, piece: &[u8], state: State) -> Result<Answer, String> {
-        if (lent.image.len(), lent.stash.len(), lent.work.len()) != (self.image.bytes().len(), self.stash.bytes().len(), self.work.bytes().len()) {
+        if lent.rooms() != self.others().2.rooms() {
             self.lend(lent);
         }
         self.list.set(&lent.list, self.behind);
+        self.patch.set(&lent.patch, self.behind);
         self.piece.set(piece, self.behind);
         self.note(|| {
-            format!(
-                "call: list {}\n{}\n  image {}\n  stash {}\n  work {}\n  piece {}\n  state {}",
-                hex(&lent.list),
-                String::from_utf8_lossy(&lent.list),
-                hex(&lent.image),
-                hex(&lent.stash),
-                hex(&lent.work),
-                hex(piece),
-                state_text(&state)
-            )
+            let text = String::from_utf8_lossy(&lent.list).to_string();
+            format!("call: {}\n  piece {}\n{text}\n  state {}", lent.text(), hex(piece), state_text(&state))
         });
-        let ours = plain::call(&lent.list, &mut lent.image, &mut lent.stash, &mut lent.work, piece, state);
-        let theirs =
-            self.other.call(self.list.bytes(), self.image.bytes_mut(), self.stash.bytes_mut(), self.work.bytes_mut(), self.piece.bytes(), state);
-        let lengths = Lengths { list: lent.list.len(), image: lent.image.len(), stash: lent.stash.len(), work: lent.work.len() };
-        self.coverage.call(&lent.list, &lengths, piece, &state, &ours);
+        let (list, areas) = lent.areas();
+        let ours = plain::call(list, areas, piece, state);
+        let (other, list, areas, others_piece) = self.others();
+        let theirs = other.call(list, areas, others_piece, state);
+        let (list, areas) = lent.areas();
+        self.coverage.call(list, &areas, piece, &state, &ours);
         self.note(|| format!("  plain: {}\n  other: {}", answer_text(&ours), answer_text(&theirs)));
-        self.same(lent, &ours, &theirs, "call")?;
-        if self.list.bytes() != lent.list || self.piece.bytes() != piece {
-            return Err("list or piece was written".into());
-        }
+        self.same(lent, piece, &ours, &theirs, "call")?;
         Ok(ours)
     }
 
-    fn same(&mut self, lent: &Lent, ours: &Answer, theirs: &Answer, what: &str) -> Result<(), String> {
+    fn same(&mut self, lent: &Lent, piece: &[u8], ours: &Answer, theirs: &Answer, what: &str) -> Result<(), String> {
         let mut wrong = Vec::new();
         if ours.outcome != theirs.outcome {
             wrong.push(format!("outcome {:?} and {:?}", ours.outcome, theirs.outcome));
@@ -186,9 +212,17 @@ impl<'a> Checker<'a> {
         if ours.state != theirs.state {
             wrong.push("the state".into());
         }
-        for (name, a, b) in
-            [("image", &lent.image, self.image.bytes()), ("stash", &lent.stash, self.stash.bytes()), ("work", &lent.work, self.work.bytes())]
-        {
+        let areas = [
+            ("image", &lent.image[..], self.image.bytes()),
+            ("stash", &lent.stash, self.stash.bytes()),
+            ("work", &lent.work, self.work.bytes()),
+            ("result", &lent.result, self.result.bytes()),
+            // What is only read stays.
+            ("patch", &lent.patch, self.patch.bytes()),
+            ("list", &lent.list, self.list.bytes()),
+            ("piece", piece, self.piece.bytes()),
+        ];
+        for (name, a, b) in areas {
             if a != b {
                 wrong.push(format!("{name} at byte {}", first_difference(a, b)));
             }
@@ -196,8 +230,8 @@ impl<'a> Checker<'a> {
         if wrong.is_empty() {
             return Ok(());
         }
-        for (name, theirs) in [("image", self.image.bytes()), ("stash", self.stash.bytes()), ("work", self.work.bytes())] {
-            if let Some(log) = &mut self.log {
+        if let Some(log) = &mut self.log {
+            for (name, _, theirs) in areas {
                 let _ = writeln!(log, "  other's {name} {}", hex(theirs));
             }
         }
@@ -210,23 +244,15 @@ impl<'a> Checker<'a> {
         self.lend(lent);
         self.list.set(&lent.list, self.behind);
         self.piece.set(data, self.behind);
-        let ours = plain::run(&fresh.list, &mut fresh.image, &mut fresh.stash, &mut fresh.work, data, cuts);
-        let theirs =
-            self.other.run(self.list.bytes(), self.image.bytes_mut(), self.stash.bytes_mut(), self.work.bytes_mut(), self.piece.bytes(), cuts);
+        let (list, areas) = fresh.areas();
+        let ours = plain::run(list, areas, data, cuts);
+        let (other, list, areas, others_data) = self.others();
+        let theirs = other.run(list, areas, others_data, cuts);
         self.coverage.runs += 1;
         self.note(|| {
-            format!(
-                "run: list {}\n  image {}\n  stash {}\n  work {}\n  data {}\n  cuts {:?}\n  plain: {}\n  other: {}",
-                hex(&lent.list),
-                hex(&lent.image),
-                hex(&lent.stash),
-                hex(&lent.work),
-                hex(data),
-                cuts,
-                answer_text(&ours),
-                answer_text(&theirs)
-            )
+            let (ours, theirs) = (answer_text(&ours), answer_text(&theirs));
+            format!("run: {}\n  data {}\n  cuts {cuts:?}\n  plain: {ours}\n  other: {theirs}", lent.text(), hex(data))
         });
-        self.same(&fresh, &ours, &theirs, "run")
+        self.same(&fresh, data, &ours, &theirs, "run")
     }
 }

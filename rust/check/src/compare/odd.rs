@@ -3,7 +3,7 @@
 use super::{Checker, Lent};
 use crate::generate::Rng;
 use crate::hex;
-use reference::{digest, BLOCK, MOST_AREA, MOST_IMAGE, MOST_LIST};
+use reference::{digest, Rooms, BLOCK, MOST_AREA, MOST_IMAGE, MOST_LIST, MOST_RESULT};
 
 impl Checker<'_> {
     pub(super) fn digest(&mut self, rng: &mut Rng) -> Result<(), String> {
@@ -53,17 +53,22 @@ impl Checker<'_> {
                     1 << 63,
                 ])
             };
-            let i = odd(rng, image, lent.image.len());
-            let s = odd(rng, area, lent.stash.len());
-            let w = odd(rng, area, lent.work.len());
-            self.open(&lent.list, i, s, w)?;
+            let rooms = Rooms {
+                image: odd(rng, image, lent.image.len()),
+                stash: odd(rng, area, lent.stash.len()),
+                work: odd(rng, area, lent.work.len()),
+                result: odd(rng, MOST_RESULT * BLOCK, lent.result.len()),
+                // Any length will do.
+                patch: odd(rng, 1 << 32, lent.patch.len()),
+            };
+            self.open(&lent.list, rooms)?;
         }
         if rng.one_in(6) {
             // One byte too many, or just not, with a good or a bad header.
             let mut long = lent.list.clone();
             long.resize(MOST_LIST + rng.below(3), b'\n');
             let odd = rng.below(5) / 4;
-            self.open(&long, lent.image.len() + odd, lent.stash.len(), lent.work.len())?;
+            self.open(&long, Rooms { image: lent.image.len() + odd, ..lent.rooms() })?;
         }
         Ok(())
     }
@@ -81,11 +86,12 @@ impl Checker<'_> {
         for _ in 0..longer {
             list.extend_from_slice(b"erase 2,0,1\n");
         }
-        let mut lent = Lent { list, image: self.blocks.lay(&[1, 2, 3, 4]), stash: Vec::new(), work: Vec::new() };
+        let image = self.blocks.lay(&[1, 2, 3, 4]);
+        let mut lent = Lent { list, image, stash: Vec::new(), work: Vec::new(), result: Vec::new(), patch: Vec::new() };
         if rng.percent(30) {
             lent.list.push(b'\n');
         }
-        let state = self.open(&lent.list, lent.image.len(), 0, 0)?;
+        let state = self.open(&lent.list, lent.rooms())?;
         self.lend(&lent);
         self.call(&mut lent, b"", state).map(|_| ())
     }

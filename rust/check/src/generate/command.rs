@@ -4,7 +4,7 @@ use super::sets::{size, Set};
 use crate::hex;
 use reference::Hash;
 
-/// The source of a `move`, in its three forms: S; stashes with their places; S with its places and stashes with theirs.
+/// The source of a `move` or a `bsdiff`, in its three forms: S; stashes with their places; S with its places and stashes with theirs.
 #[derive(Clone)]
 pub enum Source {
     Image(Set),
@@ -19,6 +19,7 @@ pub enum Command {
     Erase(Set),
     New(Set),
     Move { hash: Hash, target: Set, n: u32, source: Source },
+    Bsdiff { from: u32, bytes: u32, hash: Hash, result: Hash, target: Set, n: u32, source: Source },
     Stash { hash: Hash, source: Set },
     Free { hash: Hash },
     Raw(Vec<u8>),
@@ -40,6 +41,25 @@ fn parts_text(out: &mut Vec<u8>, parts: &[(Hash, Set)]) {
     }
 }
 
+/// What a `move` and a `bsdiff` have in common: R, N and the source.
+fn move_text(out: &mut Vec<u8>, target: &Set, n: u32, source: &Source) {
+    set_text(out, target);
+    out.extend_from_slice(format!(" {n} ").as_bytes());
+    match source {
+        Source::Image(set) => set_text(out, set),
+        Source::Stashes(parts) => {
+            out.push(b'-');
+            parts_text(out, parts);
+        }
+        Source::Both(set, places, parts) => {
+            set_text(out, set);
+            out.push(b' ');
+            set_text(out, places);
+            parts_text(out, parts);
+        }
+    }
+}
+
 impl Command {
     /// Writes the line, with its LF.
     pub fn text(&self, out: &mut Vec<u8>) {
@@ -58,21 +78,11 @@ impl Command {
             }
             Command::Move { hash, target, n, source } => {
                 out.extend_from_slice(format!("move {} ", hex(hash)).as_bytes());
-                set_text(out, target);
-                out.extend_from_slice(format!(" {n} ").as_bytes());
-                match source {
-                    Source::Image(set) => set_text(out, set),
-                    Source::Stashes(parts) => {
-                        out.push(b'-');
-                        parts_text(out, parts);
-                    }
-                    Source::Both(set, places, parts) => {
-                        set_text(out, set);
-                        out.push(b' ');
-                        set_text(out, places);
-                        parts_text(out, parts);
-                    }
-                }
+                move_text(out, target, *n, source);
+            }
+            Command::Bsdiff { from, bytes, hash, result, target, n, source } => {
+                out.extend_from_slice(format!("bsdiff {from} {bytes} {} {} ", hex(hash), hex(result)).as_bytes());
+                move_text(out, target, *n, source);
             }
             Command::Stash { hash, source } => {
                 out.extend_from_slice(format!("stash {} ", hex(hash)).as_bytes());
@@ -87,8 +97,25 @@ impl Command {
     /// The size of its target; 0 if it has none.
     pub(super) fn target_size(&self) -> u64 {
         match self {
-            Command::Zero(target) | Command::Erase(target) | Command::New(target) | Command::Move { target, .. } => size(target),
+            Command::Zero(target) | Command::Erase(target) | Command::New(target) => size(target),
+            Command::Move { target, .. } | Command::Bsdiff { target, .. } => size(target),
             Command::Stash { .. } | Command::Free { .. } | Command::Raw(_) => 0,
+        }
+    }
+
+    /// Target, N and source of a `move` or a `bsdiff`.
+    pub(super) fn moved(&mut self) -> Option<(&mut Set, &mut u32, &mut Source)> {
+        match self {
+            Command::Move { target, n, source, .. } | Command::Bsdiff { target, n, source, .. } => Some((target, n, source)),
+            _ => None,
+        }
+    }
+
+    /// The source of a `move` or a `bsdiff`, and N.
+    pub(super) fn source(&self) -> Option<(&Source, u32)> {
+        match self {
+            Command::Move { n, source, .. } | Command::Bsdiff { n, source, .. } => Some((source, *n)),
+            _ => None,
         }
     }
 
@@ -96,7 +123,7 @@ impl Command {
     pub(super) fn sets(&mut self) -> (Vec<&mut Set>, usize) {
         match self {
             Command::Zero(set) | Command::Erase(set) | Command::New(set) | Command::Stash { source: set, .. } => (vec![set], 1),
-            Command::Move { target, source, .. } => match source {
+            Command::Move { target, source, .. } | Command::Bsdiff { target, source, .. } => match source {
                 Source::Image(set) => (vec![target, set], 2),
                 Source::Stashes(parts) => (std::iter::once(target).chain(parts.iter_mut().map(|p| &mut p.1)).collect(), 1),
                 Source::Both(set, places, parts) => ([target, set, places].into_iter().chain(parts.iter_mut().map(|p| &mut p.1)).collect(), 2),

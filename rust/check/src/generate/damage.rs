@@ -100,11 +100,12 @@ fn ill_set(rng: &mut Rng, list: &mut Vec<u8>) {
     list.splice(start..end, rng.pick(&ILL_SETS).bytes());
 }
 
-const LAST_LINES: [&[u8]; 10] = [
+const LAST_LINES: [&[u8]; 11] = [
     b"bsdiff",
     b"imgdiff",
     b"bsdiff ",
     b"imgdiff 0 1",
+    b"bsdiff 0 0 da39a3ee5e6b4b0d3255bfef95601890afd80709 da39a3ee5e6b4b0d3255bfef95601890afd80709 2,0,0 0 2,0,0",
     b"bsdif",
     b"imgdiffs",
     b"zero 2,0,0",

@@ -1,6 +1,7 @@
 //! Good lists.
 
 use super::command::{Command, Source};
+use super::patch::differ;
 use super::sets::{any_set, blocks_of, place_set, Set};
 use super::{Blocks, Rng, Sizes, World};
 use reference::{Hash, MOST_STASHES};
@@ -58,24 +59,36 @@ impl World {
     pub fn good(rng: &mut Rng, blocks: &mut Blocks, sizes: &Sizes) -> World {
         let letters = rng.pick(&[3, 6, 12, 200]);
         let image: Vec<u8> = (0..sizes.image).map(|_| rng.between(0, letters) as u8).collect();
-        let mut world =
-            World { image: image.clone(), stash: sizes.area, work: sizes.area, header: [3, 0, 0, 0], commands: Vec::new(), data: Vec::new() };
+        let mut world = World {
+            image: image.clone(),
+            stash: sizes.area,
+            work: sizes.area,
+            result: sizes.area,
+            header: [3, 0, 0, 0],
+            commands: Vec::new(),
+            data: Vec::new(),
+            patch: Vec::new(),
+        };
         if rng.percent(30) {
             world.work = rng.between(0, sizes.area);
         }
         if rng.percent(30) {
             world.stash = rng.between(0, sizes.area);
         }
+        if rng.percent(30) {
+            world.result = rng.between(0, sizes.area);
+        }
         let mut follow = Follow { image, held: Vec::new(), sizes: *sizes };
         let mut most = (0, 0);
         let mut bytes = 40;
         let stash_weight = rng.pick(&[1, 4, 8]);
         for _ in 0..sizes.commands {
-            let command = match rng.below(8 + stash_weight) {
+            let command = match rng.below(10 + stash_weight) {
                 0 => Some(good_zero(rng, &mut follow)),
                 1 | 2 => Some(world.good_new(rng, letters, &mut follow)),
                 3 => good_free(rng, &mut follow),
                 4..=7 => Some(world.good_move(rng, blocks, &mut follow)),
+                8 | 9 => Some(world.good_bsdiff(rng, blocks, letters, &mut follow)),
                 _ => world.good_stash(rng, blocks, &mut follow),
             };
             if let Some(command) = command {
@@ -124,6 +137,37 @@ impl World {
     }
 
     fn good_move(&self, rng: &mut Rng, blocks: &mut Blocks, follow: &mut Follow) -> Command {
+        let (whole, source) = self.good_source(rng, follow);
+        let target = any_set(rng, whole.len(), follow.image.len());
+        let hash = blocks.digest(&whole);
+        follow.write(&target, &whole);
+        Command::Move { hash, target, n: whole.len() as u32, source }
+    }
+
+    /// A target of any size, and a patch that makes it of the source; a move where there is patch data enough.
+    fn good_bsdiff(&mut self, rng: &mut Rng, blocks: &mut Blocks, letters: usize, follow: &mut Follow) -> Command {
+        if self.patch.len() > follow.sizes.patch {
+            return self.good_move(rng, blocks, follow);
+        }
+        let (whole, source) = self.good_source(rng, follow);
+        let bound = follow.image.len();
+        let k = if bound == 0 { 0 } else { follow.some(rng, self.result) };
+        let target = any_set(rng, k, bound);
+        let ids: Vec<u8> = (0..k).map(|j| if rng.percent(30) { *whole.get(j).unwrap_or(&7) } else { rng.between(0, letters) as u8 }).collect();
+        let records = differ(rng, &blocks.lay(&whole), &blocks.lay(&ids));
+        // Sometimes bytes lie between two patches that belong to none.
+        for _ in 0..rng.pick(&[0, 0, 1, 7]) {
+            self.patch.push(rng.next_u64() as u8);
+        }
+        let from = self.patch.len() as u32;
+        records.iter().for_each(|record| record.write(&mut self.patch));
+        let bytes = self.patch.len() as u32 - from;
+        follow.write(&target, &ids);
+        Command::Bsdiff { from, bytes, hash: blocks.digest(&whole), result: blocks.digest(&ids), target, n: whole.len() as u32, source }
+    }
+
+    /// A source in one of the three forms, and its blocks put together.
+    fn good_source(&self, rng: &mut Rng, follow: &Follow) -> (Vec<u8>, Source) {
         let bound = follow.image.len();
         let named = if rng.percent(65) { follow.some_held(rng, self.work) } else { Vec::new() };
         let from_stash: usize = named.iter().map(|k| follow.held[*k].1.len()).sum();
@@ -134,7 +178,6 @@ impl World {
             _ => follow.some(rng, self.work - from_stash),
         };
         let n = from_image + from_stash;
-        let target = any_set(rng, n, bound);
         let set = any_set(rng, from_image, bound);
         let mut places = any_order(rng, n);
         if form == 1 {
@@ -160,9 +203,7 @@ impl World {
             2 => Source::Stashes(parts),
             _ => Source::Both(set, first, parts),
         };
-        let hash = blocks.digest(&whole);
-        follow.write(&target, &whole);
-        Command::Move { hash, target, n: n as u32, source }
+        (whole, source)
     }
 }
 

@@ -5,6 +5,7 @@ mod command;
 mod damage;
 mod good;
 mod lines;
+pub mod patch;
 mod pieces;
 mod rng;
 mod sets;

@@ -2,7 +2,7 @@
 
 use super::command::{Command, Source};
 use super::sets::any_set;
-use super::{Rng, World};
+use super::{patch, Rng, World};
 
 #[derive(Clone, Copy)]
 enum Fault {
@@ -22,10 +22,14 @@ enum Fault {
     Line,
     Stash,
     Hash,
+    Patch,
+    PatchPlace,
+    Result,
+    Field,
 }
 
 /// Each as often as it is to be tried.
-const FAULTS: [Fault; 24] = [
+const FAULTS: [Fault; 29] = [
     Fault::Version,
     Fault::Total,
     Fault::MostStashes,
@@ -50,19 +54,32 @@ const FAULTS: [Fault; 24] = [
     Fault::MoveSize,
     Fault::Places,
     Fault::Places,
+    Fault::Patch,
+    Fault::PatchPlace,
+    Fault::PatchPlace,
+    Fault::Result,
+    Fault::Field,
 ];
 
 fn is_move(command: &Command) -> bool {
     matches!(command, Command::Move { .. })
 }
 
+fn is_bsdiff(command: &Command) -> bool {
+    matches!(command, Command::Bsdiff { .. })
+}
+
+fn has_source(command: &Command) -> bool {
+    command.source().is_some()
+}
+
 fn moves_stashes(command: &Command) -> bool {
-    matches!(command, Command::Move { source: Source::Stashes(_) | Source::Both(..), .. })
+    matches!(command.source(), Some((Source::Stashes(_) | Source::Both(..), _)))
 }
 
 /// And there is a place to spread them over.
 fn spreads_stashes(command: &Command) -> bool {
-    moves_stashes(command) && matches!(command, Command::Move { n: 1.., .. })
+    moves_stashes(command) && matches!(command.source(), Some((_, 1..)))
 }
 
 fn names_stashes(command: &Command) -> bool {
@@ -96,10 +113,10 @@ impl World {
                 self.header[3] = rng.pick(&[blocks.saturating_sub(1), 0, area, area + 1, 4_096, 4_097, 4_294_967_295]);
             }
             Fault::PastImage => self.past_image(rng, at),
-            Fault::Length => self.other_length(rng, self.seek(at, is_move)),
+            Fault::Length => self.other_length(rng, self.seek(at, has_source)),
             Fault::Name => self.other_name(rng, self.seek(at, names_stashes)),
             Fault::Size => self.other_size(rng, at),
-            Fault::MoveSize => self.other_size(rng, self.seek(at, is_move)),
+            Fault::MoveSize => self.other_size(rng, self.seek(at, has_source)),
             Fault::Places => self.other_places(rng, self.seek(at, spreads_stashes)),
             Fault::Again => {
                 if let Some(again) = self.commands.get(at).cloned() {
@@ -123,6 +140,10 @@ impl World {
             }
             Fault::Stash => self.one_more_stash(rng, at),
             Fault::Hash => self.wrong_hash(rng),
+            Fault::Patch => self.spoil_patch(rng),
+            Fault::PatchPlace => self.other_patch_place(rng, self.seek(at, is_bsdiff)),
+            Fault::Result => self.other_result(rng, self.seek(at, is_bsdiff)),
+            Fault::Field => self.other_fields(rng, self.seek(at, is_bsdiff)),
         }
     }
 
@@ -133,8 +154,13 @@ impl World {
         let zero = self.targets(|command| matches!(command, Command::Zero(_)));
         let erased = self.targets(|command| matches!(command, Command::Erase(_)));
         let moved = self.targets(is_move);
+        let patched = self.targets(is_bsdiff);
+        // N of each `bsdiff` in place of its target.
+        let sources: u64 = self.commands.iter().filter(|command| is_bsdiff(command)).filter_map(|c| Some(c.source()?.1 as u64)).sum();
         let less = |blocks: u64| total.saturating_sub(blocks);
-        self.header[1] = rng.pick(&[total + 1, less(1), 0, 4_294_967_295, new, total + erased, less(zero), less(moved), less(new)]);
+        let by_source = (less(patched) + sources).min(4_294_967_295);
+        let other = [total + 1, less(1), 0, 4_294_967_295, new, total + erased, less(zero), less(moved), less(new), less(patched), by_source];
+        self.header[1] = rng.pick(&other);
     }
 
     /// The first command of this kind from there on, all around.
@@ -165,10 +191,10 @@ impl World {
         };
     }
 
-    /// A move's N.
+    /// N.
     fn other_length(&mut self, rng: &mut Rng, at: usize) {
         let (work, bound) = (self.work as u32, self.image.len());
-        let Some(Command::Move { n, target, source, .. }) = self.commands.get_mut(at) else { return };
+        let Some((target, n, source)) = self.commands.get_mut(at).and_then(Command::moved) else { return };
         match rng.below(7) {
             0 => *n = n.saturating_add(1),
             1 => *n = n.saturating_sub(1),
@@ -195,13 +221,16 @@ impl World {
         let mut name = [0u8; 20];
         name[rng.below(20)] = rng.next_u64() as u8;
         let other = rng.below(self.commands.len());
-        if let Command::Stash { hash, .. } | Command::Move { hash, .. } | Command::Free { hash } = &self.commands[other] {
+        if let Command::Stash { hash, .. } | Command::Move { hash, .. } | Command::Bsdiff { hash, .. } | Command::Free { hash } =
+            &self.commands[other]
+        {
             if rng.percent(60) {
                 name = *hash;
             }
         }
         match &mut self.commands[at] {
-            Command::Move { source: Source::Stashes(parts) | Source::Both(_, _, parts), .. } => {
+            Command::Move { source: Source::Stashes(parts) | Source::Both(_, _, parts), .. }
+            | Command::Bsdiff { source: Source::Stashes(parts) | Source::Both(_, _, parts), .. } => {
                 let k = rng.below(parts.len());
                 parts[k].0 = name;
             }
@@ -235,7 +264,7 @@ impl World {
     /// Places taken twice, or at N and above.
     fn other_places(&mut self, rng: &mut Rng, at: usize) {
         let Some(command) = self.commands.get_mut(at) else { return };
-        let Command::Move { n, source: Source::Stashes(_) | Source::Both(..), .. } = *command else { return };
+        let Some((Source::Stashes(_) | Source::Both(..), n)) = command.source() else { return };
         let (mut sets, of_image) = command.sets();
         let which = rng.between(of_image, sets.len() - 1);
         let set = &mut sets[which];
@@ -268,11 +297,20 @@ impl World {
         self.commands.insert(to, Command::Stash { hash, source });
     }
 
-    /// Several faults in one move, so that it matters which number is lowest.
+    /// Several faults in one `move` or `bsdiff`, so that it matters which number is lowest.
     fn spoil_move(&mut self, rng: &mut Rng) {
         let (work, bound) = (self.work as u32, self.image.len() as u32);
-        let at = self.seek(rng.below(self.commands.len()), moves_stashes);
-        let Some(Command::Move { target, n, source, .. }) = self.commands.get_mut(at) else { return };
+        let one = if rng.one_in(3) { is_bsdiff } else { moves_stashes };
+        let at = self.seek(rng.below(self.commands.len()), one);
+        if let Some(Command::Bsdiff { from, target, .. }) = self.commands.get_mut(at) {
+            if rng.percent(50) {
+                *from = u32::MAX;
+            }
+            if rng.percent(30) {
+                target.extend((0..=self.result as u32).map(|_| (0, bound.min(1))));
+            }
+        }
+        let Some((target, n, source)) = self.commands.get_mut(at).and_then(Command::moved) else { return };
         let (mut from, mut parts) = match source {
             Source::Image(set) => (Some(set), None),
             Source::Stashes(parts) => (None, Some(parts)),
@@ -303,27 +341,125 @@ impl World {
         }
     }
 
+    /// Whether there is a patch to spoil.
+    pub fn has_patch(&self) -> bool {
+        self.commands.iter().any(is_bsdiff)
+    }
+
+    /// A patch malformed, cut or longer, or a target that it does not fit; the list opens all the same, mostly.
+    pub fn spoil_patch(&mut self, rng: &mut Rng) {
+        let at = self.seek(rng.below(self.commands.len()), is_bsdiff);
+        let bound = self.image.len();
+        let Some(Command::Bsdiff { from, bytes, hash, result, .. }) = self.commands.get_mut(at) else { return };
+        // The source's hash, too, now and then: it comes first.
+        if rng.one_in(12) {
+            hash[rng.below(20)] ^= 1 << rng.below(8);
+        }
+        let start = (*from as usize).min(self.patch.len());
+        let end = start.saturating_add(*bytes as usize).min(self.patch.len());
+        let patch = &mut self.patch[start..end];
+        match rng.below(12) {
+            0..=6 => patch::spoil(rng, patch),
+            7 | 8 => {
+                // Cut or longer, and there are bytes enough for it.
+                *bytes = patch::other_length(rng, patch) as u32;
+                let needed = start + *bytes as usize;
+                if needed > self.patch.len() && rng.percent(80) {
+                    self.patch.resize(needed, rng.pick(&[0, 0x43, 0xff]));
+                }
+            }
+            9 => *from = from.saturating_sub(rng.between(1, 3) as u32),
+            10 => {
+                // A block more or less of the target.
+                let follows = self.header[1] == self.total();
+                let Some(Command::Bsdiff { target, .. }) = self.commands.get_mut(at) else { return };
+                if rng.percent(50) && bound > 0 {
+                    target.push((0, 1));
+                } else if let Some(pair) = target.iter_mut().find(|pair| pair.0 < pair.1) {
+                    pair.1 -= 1;
+                }
+                if follows {
+                    self.header[1] = self.total();
+                }
+            }
+            _ => result[rng.below(20)] ^= 1 << rng.below(8),
+        }
+    }
+
+    /// O or B at the end of the patch data, one past it, or at the border of 32 bits.
+    fn other_patch_place(&mut self, rng: &mut Rng, at: usize) {
+        let length = self.patch.len() as u32;
+        let Some(Command::Bsdiff { from, bytes, .. }) = self.commands.get_mut(at) else { return };
+        match rng.below(10) {
+            0 | 1 => *bytes = length.saturating_sub(*from) + 1,
+            2 => *bytes = length.saturating_sub(*from),
+            3 => (*from, *bytes) = (length, rng.pick(&[0, 1])),
+            4 => (*from, *bytes) = (length + 1, 0),
+            5 => *from = (length + 1).saturating_sub(*bytes),
+            // Sums past 32 bits.
+            6..=8 => (*from, *bytes) = (u32::MAX, rng.pick(&[0, 1, 1, 2, 27, u32::MAX])),
+            _ => *bytes = rng.pick(&[u32::MAX, u32::MAX - *from, (u32::MAX - *from).saturating_add(1), 1 << 31]),
+        }
+    }
+
+    /// A target of the result area's blocks, of one more, or of many more.
+    fn other_result(&mut self, rng: &mut Rng, at: usize) {
+        let (room, bound) = (self.result, self.image.len());
+        let Some(Command::Bsdiff { target, .. }) = self.commands.get_mut(at) else { return };
+        if bound > 0 {
+            let blocks = rng.pick(&[room, room + 1, room + 1, room + 1, room + 20]);
+            *target = any_set(rng, blocks, bound);
+        }
+    }
+
+    /// A field less, one twice, or two of them in the other order.
+    fn other_fields(&mut self, rng: &mut Rng, at: usize) {
+        let Some(command) = self.commands.get_mut(at) else { return };
+        let mut text = Vec::new();
+        command.text(&mut text);
+        text.pop();
+        let mut fields: Vec<&[u8]> = text.split(|c| *c == b' ').collect();
+        let k = rng.below(fields.len());
+        match rng.below(4) {
+            0 | 1 => {
+                fields.remove(k);
+            }
+            2 => fields.insert(k, fields[k]),
+            _ => fields.truncate(k + 1),
+        }
+        *command = Command::Raw(fields.join(&b' '));
+    }
+
     /// Changes one hash that a run compares.
     pub fn wrong_hash(&mut self, rng: &mut Rng) {
         let count = self.commands.len();
         let from = rng.below(count);
         for k in 0..count {
-            if let Command::Move { hash, .. } | Command::Stash { hash, .. } = &mut self.commands[(from + k) % count] {
-                hash[rng.below(20)] ^= 1 << rng.below(8);
-                return;
-            }
+            let hash = match &mut self.commands[(from + k) % count] {
+                Command::Bsdiff { result, .. } if rng.percent(50) => result,
+                Command::Move { hash, .. } | Command::Stash { hash, .. } | Command::Bsdiff { hash, .. } => hash,
+                _ => continue,
+            };
+            hash[rng.below(20)] ^= 1 << rng.below(8);
+            return;
         }
     }
 }
 
-/// Lines that are no good; the first six by the word alone, refused with 7.
-const RAW_LINES: [&[u8]; 24] = [
-    b"bsdiff 0 3169086 ffc645d03fa4f56e72fefa872b792a76c26f9bb4 4bc0c9ddf123d54a04c800824c0951873e195ef1 2,0,1 1 2,0,1",
+/// Lines that are no good, but for the seventh where there is as much patch data; the first six by the word alone, refused with 7.
+const RAW_LINES: [&[u8]; 30] = [
+    b"imgdiff 0 3169086 ffc645d03fa4f56e72fefa872b792a76c26f9bb4 4bc0c9ddf123d54a04c800824c0951873e195ef1 2,0,1 1 2,0,1",
     b"imgdiff 1 2 x",
-    b"bsdiff",
+    b"imgdiff 0 0 da39a3ee5e6b4b0d3255bfef95601890afd80709 da39a3ee5e6b4b0d3255bfef95601890afd80709 2,0,0 0 2,0,0",
     b"imgdiff",
-    b"bsdiff ",
+    b"imgdiff ",
     b"imgdiff  \xff",
+    b"bsdiff 0 3169086 ffc645d03fa4f56e72fefa872b792a76c26f9bb4 4bc0c9ddf123d54a04c800824c0951873e195ef1 2,0,1 1 2,0,1",
+    b"bsdiff",
+    b"bsdiff ",
+    b"bsdiff 0 0 da39a3ee5e6b4b0d3255bfef95601890afd80709 2,0,0 0 2,0,0",
+    b"bsdiff 0 4294967296 da39a3ee5e6b4b0d3255bfef95601890afd80709 da39a3ee5e6b4b0d3255bfef95601890afd80709 2,0,0 0 2,0,0",
+    b"imgdiff\t0",
     b"bsdiff\t0",
     b"bsdiffs 1",
     b" bsdiff",

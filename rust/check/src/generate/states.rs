@@ -75,17 +75,21 @@ pub fn disturb(rng: &mut Rng, state: &mut State, list: &[u8]) {
             }
         }
         17 => {
-            let near = rng.pick(&[0, BLOCK, state.lengths.image]);
+            let lengths = &mut state.lengths;
+            let near = rng.pick(&[0, BLOCK, lengths.image, lengths.patch]);
             let value = border(rng, near);
-            match rng.below(4) {
-                0 => state.lengths.list = value,
-                1 => state.lengths.image = value,
-                2 => state.lengths.stash = value,
-                _ => state.lengths.work = value,
-            }
+            let length = match rng.below(6) {
+                0 => &mut lengths.list,
+                1 => &mut lengths.image,
+                2 => &mut lengths.stash,
+                3 => &mut lengths.work,
+                4 => &mut lengths.result,
+                _ => &mut lengths.patch,
+            };
+            *length = value;
         }
         18 => {
-            let number = rng.pick(&[0, 1, 6, 15, 16, 17, 18, 99, usize::MAX]);
+            let number = rng.pick(&[0, 1, 6, 15, 16, 17, 18, 19, 20, 99, usize::MAX]);
             state.refusal = Refusal { number, line: rng.pick(&[0, 1, 5, 77, usize::MAX]) };
         }
         19 => {

@@ -2,18 +2,21 @@
 
 use super::command::Command;
 
-/// A list with the image it runs on, the new data it takes and the areas it needs. Blocks are named by their bytes' number.
+/// A list with the image it runs on, the new data it takes, the patch data it names and the areas it needs. Blocks are named by their bytes'
+/// number.
 #[derive(Clone)]
 pub struct World {
     pub image: Vec<u8>,
     pub stash: usize,
     pub work: usize,
+    pub result: usize,
     pub header: [u64; 4],
     pub commands: Vec<Command>,
     pub data: Vec<u8>,
+    pub patch: Vec<u8>,
 }
 
-/// How large a world may be: blocks of the image and of an area, commands, blocks of one command, and bytes of the list.
+/// How large a world may be: blocks of the image and of an area, commands, blocks of one command, bytes of the list and of the patch data.
 #[derive(Clone, Copy)]
 pub struct Sizes {
     pub image: usize,
@@ -21,11 +24,12 @@ pub struct Sizes {
     pub commands: usize,
     pub most: usize,
     pub bytes: usize,
+    pub patch: usize,
 }
 
 impl Sizes {
     pub fn small(image: usize, area: usize, commands: usize) -> Sizes {
-        Sizes { image, area, commands, most: 4, bytes: usize::MAX }
+        Sizes { image, area, commands, most: 4, bytes: usize::MAX, patch: 1 << 20 }
     }
 }
 
@@ -35,9 +39,9 @@ impl World {
         self.commands.iter().filter(|command| kind(command)).map(Command::target_size).sum()
     }
 
-    /// What line 2 must be: the targets of `new`, `zero` and `move`.
+    /// What line 2 must be: the targets of `new`, `zero`, `move` and `bsdiff`.
     pub fn total(&self) -> u64 {
-        self.targets(|command| matches!(command, Command::New(_) | Command::Zero(_) | Command::Move { .. }))
+        self.targets(|command| matches!(command, Command::New(_) | Command::Zero(_) | Command::Move { .. } | Command::Bsdiff { .. }))
     }
 
     /// The list's text.

@@ -1,7 +1,7 @@
 //! What the tests of the rules share. Each rule is tried on all three implementations.
 
 use check::{hex, Implementation, Library, Model, Plain};
-use reference::{digest, Answer, Outcome, Refusal, State, BLOCK};
+use reference::{digest, Answer, Areas, Outcome, Refusal, Rooms, State, BLOCK};
 
 pub fn all() -> [&'static dyn Implementation; 3] {
     [&Plain, &Model, &Library]
@@ -30,19 +30,48 @@ pub struct Lent {
     pub image: Vec<u8>,
     pub stash: Vec<u8>,
     pub work: Vec<u8>,
+    pub result: Vec<u8>,
+    pub patch: Vec<u8>,
 }
 
 impl Lent {
     pub fn new(list: &str) -> Lent {
-        Lent { list: list.as_bytes().to_vec(), image: blocks("ABCDEFGH"), stash: blocks("xyz"), work: blocks("uvw") }
+        Lent::with_patch(list, &[])
+    }
+
+    pub fn with_patch(list: &str, patch: &[u8]) -> Lent {
+        let (image, stash, work, result) = (blocks("ABCDEFGH"), blocks("xyz"), blocks("uvw"), blocks("rst"));
+        Lent { list: list.as_bytes().to_vec(), image, stash, work, result, patch: patch.to_vec() }
+    }
+
+    pub fn rooms(&self) -> Rooms {
+        let Lent { image, stash, work, result, patch, .. } = self;
+        Rooms { image: image.len(), stash: stash.len(), work: work.len(), result: result.len(), patch: patch.len() }
+    }
+
+    /// The list, and what is lent beside it.
+    pub fn areas(&mut self) -> (&[u8], Areas<'_>) {
+        let Lent { list, image, stash, work, result, patch } = self;
+        (list, Areas { image, stash, work, result, patch })
     }
 
     pub fn open(&self, on: &dyn Implementation) -> State {
-        on.open(&self.list, self.image.len(), self.stash.len(), self.work.len())
+        on.open(&self.list, self.rooms())
     }
 
     pub fn call(&mut self, on: &dyn Implementation, piece: &[u8], state: State) -> Answer {
-        on.call(&self.list, &mut self.image, &mut self.stash, &mut self.work, piece, state)
+        let (list, areas) = self.areas();
+        on.call(list, areas, piece, state)
+    }
+
+    pub fn run(&mut self, on: &dyn Implementation, data: &[u8], cuts: &[usize]) -> Answer {
+        let (list, areas) = self.areas();
+        on.run(list, areas, data, cuts)
+    }
+
+    /// Image, stash, work and result area, a letter for each block.
+    pub fn letters(&self) -> [String; 4] {
+        [&self.image, &self.stash, &self.work, &self.result].map(|area| letters(area))
     }
 
     pub fn all(&mut self, on: &dyn Implementation, piece: &[u8]) -> Answer {
@@ -51,17 +80,19 @@ impl Lent {
     }
 }
 
-/// Image, stash and work area after one call, and the answer.
-pub fn after(list: &str, piece: &[u8]) -> (String, String, String, Answer) {
+/// The areas after one call, and the answer: the same on all three, byte for byte, with the patch data as it was.
+pub fn after(list: &str, patch: &[u8], piece: &[u8]) -> ([String; 4], Answer) {
     let mut got = Vec::new();
     for on in all() {
-        let mut lent = Lent::new(list);
+        let mut lent = Lent::with_patch(list, patch);
         let answer = lent.all(on, piece);
-        got.push((letters(&lent.image), letters(&lent.stash), letters(&lent.work), answer));
+        assert!(lent.patch == patch, "{list}");
+        got.push((lent.letters(), answer, [lent.image, lent.stash, lent.work, lent.result]));
     }
     got.dedup();
     assert_eq!(got.len(), 1, "{list}");
-    got.remove(0)
+    let (letters, answer, _) = got.remove(0);
+    (letters, answer)
 }
 
 pub fn said(answer: &Answer) -> (Outcome, usize) {

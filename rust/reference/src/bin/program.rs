@@ -1,12 +1,13 @@
-//! The small program of document 01.
+//! The small program of document 01, with the patch file of document 02.
 
 use reference::plain::{call, open};
-use reference::{Outcome, Refusal, BLOCK};
+use reference::{Areas, Outcome, Refusal, BLOCK};
 use std::fs;
 
 const LIST: &str = "system.transfer.list";
 const IMAGE: &str = "system.img";
 const NEW: &str = "system.new.dat";
+const PATCH: &str = "system.patch.dat";
 
 fn read(name: &str) -> Vec<u8> {
     fs::read(name).unwrap_or_default()
@@ -16,6 +17,8 @@ fn main() {
     let list = read(LIST);
     let mut image = read(IMAGE);
     let new = read(NEW);
+    let mut patch = read(PATCH);
+    patch.truncate(BLOCK);
     if image.len() > 8 * BLOCK {
         println!("refused 1 0");
         return;
@@ -26,7 +29,9 @@ fn main() {
     }
     let mut stash = vec![0; 3 * BLOCK];
     let mut work = vec![0; 3 * BLOCK];
-    let mut state = open(&list, image.len(), stash.len(), work.len());
+    let mut result = vec![0; 3 * BLOCK];
+    let mut areas = Areas { image: &mut image, stash: &mut stash, work: &mut work, result: &mut result, patch: &patch };
+    let mut state = open(&list, areas.rooms());
     if state.refusal.number != 0 {
         println!("refused {} {}", state.refusal.number, state.refusal.line);
         return;
@@ -35,14 +40,14 @@ fn main() {
     let mut rest = &new[..];
     loop {
         let (piece, after) = rest.split_at(rest.len().min(BLOCK));
-        let answer = call(&list, &mut image, &mut stash, &mut work, piece, state);
+        let answer = call(&list, areas.reborrow(), piece, state);
         total += answer.taken;
         state = answer.state;
         rest = after;
         if answer.outcome == Outcome::More && !rest.is_empty() {
             continue;
         }
-        fs::write(IMAGE, &image).expect("the image cannot be written");
+        fs::write(IMAGE, &*areas.image).expect("the image cannot be written");
         match answer.outcome {
             Outcome::Done => println!("done {total}"),
             Outcome::More => println!("more {total}"),

@@ -1,10 +1,11 @@
 //! The rules a second time, slow and by other means: lines and fields are split apart, every number that applies to a line is
 //! collected before the lowest is taken, and new data goes byte by byte. It guards the plain loops against slips.
 
+mod patch;
 mod read;
 mod sparse;
 
-use crate::{digest, Answer, Lengths, Outcome, Refusal, State, BLOCK};
+use crate::{digest, Answer, Areas, Lengths, Outcome, Refusal, Rooms, State, BLOCK};
 use read::{blocks, decode, past, rules, size, Command, Ranges, Rules, Source};
 pub use sparse::load_sparse;
 
@@ -13,7 +14,7 @@ fn stashes(state: &State) -> Vec<(Vec<u8>, u64)> {
     state.hashes.chunks(20).map(|h| h.to_vec()).zip(state.sizes.iter().map(|s| *s as u64)).take(state.count).collect()
 }
 
-/// Every number from 8 to 14 that applies; 12 is looked at only where no lower one does.
+/// Every number of 8 to 14 and 18 that applies; 12 is looked at only where no lower one does.
 fn faults(command: &Command, rules: &Rules, held: &[(Vec<u8>, u64)]) -> Vec<usize> {
     let mut found = Vec::new();
     let mut fault = |number: usize, applies: bool| {
@@ -32,10 +33,15 @@ fn faults(command: &Command, rules: &Rules, held: &[(Vec<u8>, u64)]) -> Vec<usiz
             fault(9, size(source) > rules.work);
             fault(8, past(source, rules.image));
         }
-        Command::Move { target, n, source, .. } => {
+        Command::Move { target, n, source, .. } | Command::Bsdiff { target, n, source, .. } => {
+            if let Command::Bsdiff { patch: (from, bytes), .. } = command {
+                fault(18, (*from as u128 + *bytes as u128) > rules.patch as u128);
+                fault(9, size(target) > rules.result);
+            } else {
+                fault(11, size(target) != *n);
+            }
             fault(8, past(target, rules.image));
             fault(9, *n > rules.work);
-            fault(11, size(target) != *n);
             let nothing = Vec::new();
             let (from, first, parts) = match source {
                 Source::Image(from) => (Some(from), None, &nothing),
@@ -56,7 +62,7 @@ fn faults(command: &Command, rules: &Rules, held: &[(Vec<u8>, u64)]) -> Vec<usiz
             if from.is_none() || first.is_some() {
                 let sets: Vec<&Ranges> = first.into_iter().chain(parts.iter().map(|part| &part.1)).collect();
                 fault(11, sets.iter().map(|set| size(set)).sum::<u64>() != *n);
-                if found.is_empty() {
+                if found.iter().all(|number| *number > 12) {
                     let mut places: Vec<usize> = sets.into_iter().flat_map(blocks).collect();
                     places.sort();
                     if places != (0..*n as usize).collect::<Vec<_>>() {
@@ -84,7 +90,8 @@ fn opening(list: &[u8], lengths: &Lengths) -> Result<usize, Refusal> {
     let mut counted: Vec<u64> = Vec::new();
     for (k, line) in list[rules.after..].split_inclusive(|c| *c == b'\n').enumerate() {
         match judge(line, &rules, &held).map_err(|number| Refusal { number, line: k + 5 })? {
-            Command::New(target) | Command::Zero(target) | Command::Move { target, .. } => counted.push(size(&target)),
+            Command::New(target) | Command::Zero(target) => counted.push(size(&target)),
+            Command::Move { target, .. } | Command::Bsdiff { target, .. } => counted.push(size(&target)),
             Command::Erase(_) => {}
             Command::Stash { hash, source } => held.push((hash, size(&source))),
             Command::Free { hash } => held.retain(|stash| stash.0 != hash),
@@ -96,8 +103,8 @@ fn opening(list: &[u8], lengths: &Lengths) -> Result<usize, Refusal> {
     Ok(rules.after)
 }
 
-pub fn open(list: &[u8], image: usize, stash: usize, work: usize) -> State {
-    let lengths = Lengths { list: list.len(), image, stash, work };
+pub fn open(list: &[u8], rooms: Rooms) -> State {
+    let lengths = Lengths::of(list, rooms);
     let mut state = State::ZERO;
     match opening(list, &lengths) {
         Ok(at) => {
@@ -156,6 +163,8 @@ struct Run<'a> {
     image: &'a mut [u8],
     stash: &'a mut [u8],
     work: &'a mut [u8],
+    result: &'a mut [u8],
+    patch: &'a [u8],
     piece: &'a [u8],
     state: State,
     taken: usize,
@@ -199,8 +208,8 @@ impl Run<'_> {
         true
     }
 
-    /// Puts a source together; whether it has its hash, and was then written.
-    fn move_blocks(&mut self, held: &[(Vec<u8>, u64)], hash: &[u8], target: &Ranges, n: usize, source: &Source) -> bool {
+    /// Puts a source together; whether it has its hash.
+    fn source(&mut self, held: &[(Vec<u8>, u64)], hash: &[u8], n: usize, source: &Source) -> bool {
         let all: Vec<usize> = (0..n).collect();
         let nothing = Vec::new();
         let parts = match source {
@@ -219,11 +228,26 @@ impl Run<'_> {
             let from: Vec<usize> = (start_of(held, k)..start_of(held, k + 1)).collect();
             put(self.work, self.stash, &from, &blocks(places));
         }
-        if !self.gathered(n, hash) {
-            return false;
+        self.gathered(n, hash)
+    }
+
+    /// What the work area holds by now goes over the target; nothing refuses that.
+    fn moved(&mut self, target: &Ranges, n: usize) -> Option<usize> {
+        put(self.image, self.work, &(0..n).collect::<Vec<_>>(), &blocks(target));
+        None
+    }
+
+    /// What the work area holds by now goes through the patch and over the target; or 19, or 16 for the result.
+    fn patched(&mut self, patch: (u64, u64), hash: &[u8], target: &Ranges, n: usize) -> Option<usize> {
+        let order = blocks(target);
+        let records = self.patch.iter().skip(patch.0 as usize).take(patch.1 as usize).copied().collect();
+        let Some(made) = patch::result(records, &self.work[..n * BLOCK], order.len() * BLOCK) else { return Some(19) };
+        self.result[..made.len()].copy_from_slice(&made);
+        if digest(&made)[..] != *hash {
+            return Some(16);
         }
-        put(self.image, self.work, &all, &blocks(target));
-        true
+        put(self.image, &made, &(0..order.len()).collect::<Vec<_>>(), &order);
+        None
     }
 
     /// Whether the source has its hash, and was then held.
@@ -255,9 +279,10 @@ impl Run<'_> {
     }
 }
 
-pub fn call(list: &[u8], image: &mut [u8], stash: &mut [u8], work: &mut [u8], piece: &[u8], state: State) -> Answer {
-    let lengths = Lengths { list: list.len(), image: image.len(), stash: stash.len(), work: work.len() };
-    let mut run = Run { image, stash, work, piece, state, taken: 0 };
+pub fn call(list: &[u8], areas: Areas, piece: &[u8], state: State) -> Answer {
+    let lengths = Lengths::of(list, areas.rooms());
+    let Areas { image, stash, work, result, patch } = areas;
+    let mut run = Run { image, stash, work, result, patch, piece, state, taken: 0 };
     if state.refusal.number != 0 {
         return run.ends(Outcome::Refused(state.refusal));
     }
@@ -267,25 +292,35 @@ pub fn call(list: &[u8], image: &mut [u8], stash: &mut [u8], work: &mut [u8], pi
     let rules = rules(list, &lengths).expect("possible");
     for line in list[state.at..].split_inclusive(|c| *c == b'\n') {
         let held = stashes(&run.state);
-        let has_hash = match judge(line, &rules, &held) {
-            Err(number) => return run.refused(number),
+        let number = match judge(line, &rules, &held) {
+            Err(number) => Some(number),
             Ok(Command::Zero(target) | Command::Erase(target)) => {
                 run.zeros(&target);
-                true
+                None
             }
             Ok(Command::New(target)) => match run.new_data(&target) {
-                true => true,
+                true => None,
                 false => return run.ends(Outcome::More),
             },
-            Ok(Command::Move { hash, target, n, source }) => run.move_blocks(&held, &hash, &target, n as usize, &source),
-            Ok(Command::Stash { hash, source }) => run.stash_blocks(&held, &hash, &source),
+            Ok(Command::Move { hash, target, n, source }) => match run.source(&held, &hash, n as usize, &source) {
+                true => run.moved(&target, n as usize),
+                false => Some(16),
+            },
+            Ok(Command::Bsdiff { patch, hash, result, target, n, source }) => match run.source(&held, &hash, n as usize, &source) {
+                true => run.patched(patch, &result, &target, n as usize),
+                false => Some(16),
+            },
+            Ok(Command::Stash { hash, source }) => match run.stash_blocks(&held, &hash, &source) {
+                true => None,
+                false => Some(16),
+            },
             Ok(Command::Free { hash }) => {
                 run.free(&held, &hash);
-                true
+                None
             }
         };
-        if !has_hash {
-            return run.refused(16);
+        if let Some(number) = number {
+            return run.refused(number);
         }
         run.state.at += line.len();
         run.state.line += 1;

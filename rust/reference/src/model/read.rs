@@ -15,6 +15,7 @@ pub(super) enum Command {
     Erase(Ranges),
     New(Ranges),
     Move { hash: Vec<u8>, target: Ranges, n: u64, source: Source },
+    Bsdiff { patch: (u64, u64), hash: Vec<u8>, result: Vec<u8>, target: Ranges, n: u64, source: Source },
     Stash { hash: Vec<u8>, source: Ranges },
     Free { hash: Vec<u8> },
 }
@@ -56,7 +57,7 @@ fn parts(fields: &[&[u8]]) -> Option<Vec<(Vec<u8>, Ranges)>> {
 /// A line with its LF, if it has one: the command, or 6 or 7.
 pub(super) fn decode(line: &[u8]) -> Result<Command, usize> {
     let word = line.split(|c| *c == b' ' || *c == b'\n').next().unwrap_or(b"");
-    if word == b"bsdiff" || word == b"imgdiff" {
+    if word == b"imgdiff" {
         return Err(7);
     }
     let body = line.strip_suffix(b"\n").ok_or(6usize)?;
@@ -71,16 +72,25 @@ fn fields_of(fields: &[&[u8]]) -> Option<Command> {
         [b"new", set] => Some(Command::New(ranges(set)?)),
         [b"free", name] => Some(Command::Free { hash: hash(name)? }),
         [b"stash", name, set] => Some(Command::Stash { hash: hash(name)?, source: ranges(set)? }),
-        [b"move", name, set, n, rest @ ..] => {
-            let source = match rest {
-                [set] => Source::Image(ranges(set)?),
-                [b"-", after @ ..] => Source::Stashes(parts(after)?),
-                [set, places, after @ ..] => Source::Both(ranges(set)?, ranges(places)?, parts(after)?),
-                [] => return None,
-            };
-            Some(Command::Move { hash: hash(name)?, target: ranges(set)?, n: number(n)?, source })
-        }
+        [b"move", name, set, n, rest @ ..] => Some(Command::Move { hash: hash(name)?, target: ranges(set)?, n: number(n)?, source: source(rest)? }),
+        [b"bsdiff", from, bytes, name, after, set, n, rest @ ..] => Some(Command::Bsdiff {
+            patch: (number(from)?, number(bytes)?),
+            hash: hash(name)?,
+            result: hash(after)?,
+            target: ranges(set)?,
+            n: number(n)?,
+            source: source(rest)?,
+        }),
         _ => None,
+    }
+}
+
+fn source(fields: &[&[u8]]) -> Option<Source> {
+    match fields {
+        [set] => Some(Source::Image(ranges(set)?)),
+        [b"-", after @ ..] => Some(Source::Stashes(parts(after)?)),
+        [set, places, after @ ..] => Some(Source::Both(ranges(set)?, ranges(places)?, parts(after)?)),
+        [] => None,
     }
 }
 
@@ -116,13 +126,15 @@ pub(super) struct Rules {
     pub(super) held: u64,
     pub(super) image: u64,
     pub(super) work: u64,
+    pub(super) result: u64,
+    pub(super) patch: u64,
     pub(super) after: usize,
 }
 
 /// 1 to 5.
 pub(super) fn rules(list: &[u8], lengths: &Lengths) -> Result<Rules, Refusal> {
     let block = BLOCK as u64;
-    for (bytes, most) in [(lengths.image, 1_048_576u64), (lengths.stash, 4_096), (lengths.work, 4_096)] {
+    for (bytes, most) in [(lengths.image, 1_048_576u64), (lengths.stash, 4_096), (lengths.work, 4_096), (lengths.result, 4_096)] {
         if bytes as u64 % block != 0 || bytes as u64 > most * block {
             return Err(Refusal { number: 1, line: 0 });
         }
@@ -140,6 +152,6 @@ pub(super) fn rules(list: &[u8], lengths: &Lengths) -> Result<Rules, Refusal> {
     if numbers[3] * block > lengths.stash as u64 {
         return Err(Refusal { number: 5, line: 4 });
     }
-    let (image, work) = (lengths.image as u64 / block, lengths.work as u64 / block);
-    Ok(Rules { total: numbers[1], stashes: numbers[2], held: numbers[3], image, work, after })
+    let [image, work, result] = [lengths.image, lengths.work, lengths.result].map(|bytes| bytes as u64 / block);
+    Ok(Rules { total: numbers[1], stashes: numbers[2], held: numbers[3], image, work, result, patch: lengths.patch as u64, after })
 }

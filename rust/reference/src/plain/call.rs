@@ -1,26 +1,18 @@
 //! Calls.
 
 use super::check::check;
-use super::command::{decode, Command, Move};
+use super::command::{decode, Bsdiff, Command, Move};
 use super::text::Set;
-use super::{header, open, Header};
-use crate::{digest, Answer, Lengths, Outcome, Refusal, State, BLOCK, MOST_STASHES};
-
-/// The lent areas that a run writes.
-struct Areas<'a> {
-    image: &'a mut [u8],
-    stash: &'a mut [u8],
-    work: &'a mut [u8],
-}
+use super::{header, open, patch, Header};
+use crate::{digest, Answer, Areas, Lengths, Outcome, Refusal, State, BLOCK, MOST_STASHES};
 
 /// One call with one piece of new data.
-pub fn call(list: &[u8], image: &mut [u8], stash: &mut [u8], work: &mut [u8], piece: &[u8], state: State) -> Answer {
+pub fn call(list: &[u8], mut areas: Areas, piece: &[u8], state: State) -> Answer {
     if state.refusal.number != 0 {
         return refused(state, state.refusal, 0);
     }
-    let lengths = Lengths { list: list.len(), image: image.len(), stash: stash.len(), work: work.len() };
-    match possible(list, &lengths, &state) {
-        Some(header) => run_lines(list, &header, &mut Areas { image, stash, work }, piece, state),
+    match possible(list, &Lengths::of(list, areas.rooms()), &state) {
+        Some(header) => run_lines(list, &header, &mut areas, piece, state),
         None => refused(state, Refusal { number: 17, line: 0 }, 0),
     }
 }
@@ -103,14 +95,21 @@ fn run_command(list: &[u8], areas: &mut Areas, piece: &[u8], state: &mut State, 
         }
         Command::New(target) => return Ok(run_new(list, areas.image, piece, state, taken, target)),
         Command::Move(line) => {
-            let n = line.n as usize;
-            gather(list, areas, state, line);
-            if digest(&areas.work[..n * BLOCK]) != line.hash {
+            gather(list, areas, state, line)?;
+            spread(list, areas.image, areas.work, &line.target);
+        }
+        Command::Bsdiff(Bsdiff { from, bytes, result, line }) => {
+            gather(list, areas, state, line)?;
+            let records = &areas.patch[*from as usize..][..*bytes as usize];
+            let target = &mut areas.result[..line.target.blocks as usize * BLOCK];
+            if !patch::fits(records, target.len()) {
+                return Err(19);
+            }
+            patch::apply(records, &areas.work[..line.n as usize * BLOCK], target);
+            if digest(target) != *result {
                 return Err(16);
             }
-            for (k, block) in line.target.each(list).enumerate() {
-                areas.image[block * BLOCK..][..BLOCK].copy_from_slice(&areas.work[k * BLOCK..][..BLOCK]);
-            }
+            spread(list, areas.image, areas.result, &line.target);
         }
         Command::Stash(hash, source) => {
             let n = source.blocks as usize;
@@ -158,8 +157,15 @@ fn run_new(list: &[u8], image: &mut [u8], piece: &[u8], state: &mut State, taken
     true
 }
 
-/// Puts a move's source together in the work area.
-fn gather(list: &[u8], areas: &mut Areas, state: &State, line: &Move) {
+/// The area's first blocks go over the target, in the written order.
+fn spread(list: &[u8], image: &mut [u8], area: &[u8], target: &Set) {
+    for (k, block) in target.each(list).enumerate() {
+        image[block * BLOCK..][..BLOCK].copy_from_slice(&area[k * BLOCK..][..BLOCK]);
+    }
+}
+
+/// Puts a source together in the work area; 16 where it does not have its hash.
+fn gather(list: &[u8], areas: &mut Areas, state: &State, line: &Move) -> Result<(), usize> {
     if let Some(source) = line.source {
         match line.places {
             Some(places) => {
@@ -182,11 +188,15 @@ fn gather(list: &[u8], areas: &mut Areas, state: &State, line: &Move) {
             }
         }
     }
+    if digest(&areas.work[..line.n as usize * BLOCK]) != line.hash {
+        return Err(16);
+    }
+    Ok(())
 }
 
 /// Opens, then calls with pieces of data of the given lengths, cut short where data ends, and a last piece with the rest.
-pub fn run(list: &[u8], image: &mut [u8], stash: &mut [u8], work: &mut [u8], data: &[u8], cuts: &[usize]) -> Answer {
-    let state = open(list, image.len(), stash.len(), work.len());
+pub fn run(list: &[u8], mut areas: Areas, data: &[u8], cuts: &[usize]) -> Answer {
+    let state = open(list, areas.rooms());
     if state.refusal.number != 0 {
         return refused(state, state.refusal, 0);
     }
@@ -195,7 +205,7 @@ pub fn run(list: &[u8], image: &mut [u8], stash: &mut [u8], work: &mut [u8], dat
     let mut taken = 0;
     for cut in cuts.iter().copied().chain([usize::MAX]) {
         let (piece, after) = rest.split_at(cut.min(rest.len()));
-        answer = call(list, image, stash, work, piece, answer.state);
+        answer = call(list, areas.reborrow(), piece, answer.state);
         taken += answer.taken;
         rest = after;
     }

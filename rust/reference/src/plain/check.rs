@@ -1,11 +1,11 @@
 //! What refuses a line.
 
-use super::command::{Command, Move};
+use super::command::{Bsdiff, Command, Move};
 use super::text::Set;
 use super::Header;
 use crate::{Lengths, State, BLOCK, MOST_AREA};
 
-/// 8 to 14 for one command against what is held: the lowest that applies.
+/// 8 to 14 and 18 for one command against what is held: the lowest that applies.
 pub(super) fn check(list: &[u8], header: &Header, lengths: &Lengths, held: &State, command: &Command) -> Result<(), usize> {
     let image = (lengths.image / BLOCK) as u64;
     let work = (lengths.work / BLOCK) as u64;
@@ -34,17 +34,25 @@ pub(super) fn check(list: &[u8], header: &Header, lengths: &Lengths, held: &Stat
                 return Err(14);
             }
         }
-        Command::Move(line) => check_move(list, image, work, held, line)?,
+        Command::Move(line) => check_source(list, (image, work, u64::MAX), held, line, true)?,
+        Command::Bsdiff(Bsdiff { from, bytes, line, .. }) => {
+            check_source(list, (image, work, (lengths.result / BLOCK) as u64), held, line, false)?;
+            if from + bytes > lengths.patch as u64 {
+                return Err(18);
+            }
+        }
     }
     Ok(())
 }
 
-fn check_move(list: &[u8], image: u64, work: u64, held: &State, line: &Move) -> Result<(), usize> {
+/// 8 to 12 for blocks of image, work area and room for the target; whether that must have N blocks is the command's.
+fn check_source(list: &[u8], rooms: (u64, u64, u64), held: &State, line: &Move, target_is_n: bool) -> Result<(), usize> {
+    let (image, work, room) = rooms;
     let source_blocks = line.source.map_or(0, |s| s.blocks);
     if line.target.end > image || line.source.map_or(0, |s| s.end) > image {
         return Err(8);
     }
-    if line.n > work || source_blocks > work {
+    if line.n > work || source_blocks > work || line.target.blocks > room {
         return Err(9);
     }
     let mut differ = false;
@@ -61,7 +69,7 @@ fn check_move(list: &[u8], image: u64, work: u64, held: &State, line: &Move) -> 
         }
         None => places += source_blocks,
     }
-    if differ || line.target.blocks != line.n || places != line.n {
+    if differ || (target_is_n && line.target.blocks != line.n) || places != line.n {
         return Err(11);
     }
     if line.parts == 0 {

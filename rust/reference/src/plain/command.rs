@@ -3,7 +3,8 @@
 use super::text::{Reader, Set};
 use crate::Hash;
 
-/// A `move` as written: `source` in forms one and three, `places` in form three, `parts` P's from `first` in forms two and three.
+/// A `move` as written, or what a `bsdiff` has of one: `source` in forms one and three, `places` in form three, `parts` P's from `first` in
+/// forms two and three.
 #[derive(Clone, Copy)]
 pub(super) struct Move {
     pub(super) hash: Hash,
@@ -15,11 +16,21 @@ pub(super) struct Move {
     pub(super) parts: usize,
 }
 
+/// A `bsdiff`: so many bytes of the patch data, from there on, turn the source into a target of this hash.
+#[derive(Clone, Copy)]
+pub(super) struct Bsdiff {
+    pub(super) from: u64,
+    pub(super) bytes: u64,
+    pub(super) result: Hash,
+    pub(super) line: Move,
+}
+
 pub(super) enum Command {
     Zero(Set),
     Erase(Set),
     New(Set),
     Move(Move),
+    Bsdiff(Bsdiff),
     Stash(Hash, Set),
     Free(Hash),
 }
@@ -55,7 +66,7 @@ fn word_is(text: &[u8], word: &[u8]) -> bool {
 /// The command line at `at` and where the next line starts; or 6 or 7.
 pub(super) fn decode(list: &[u8], at: usize) -> Result<(Command, usize), usize> {
     let text = &list[at.min(list.len())..];
-    if word_is(text, b"bsdiff") || word_is(text, b"imgdiff") {
+    if word_is(text, b"imgdiff") {
         return Err(7);
     }
     let mut reader = Reader { text: list, at };
@@ -67,7 +78,7 @@ pub(super) fn decode(list: &[u8], at: usize) -> Result<(Command, usize), usize> 
 
 fn command(reader: &mut Reader) -> Option<Command> {
     let text = &reader.text[reader.at..];
-    for (word, which) in [(&b"zero"[..], 0), (b"erase", 1), (b"new", 2), (b"move", 3), (b"stash", 4), (b"free", 5)] {
+    for (word, which) in [(&b"zero"[..], 0), (b"erase", 1), (b"new", 2), (b"move", 3), (b"bsdiff", 4), (b"stash", 5), (b"free", 6)] {
         if !word_is(text, word) {
             continue;
         }
@@ -77,8 +88,12 @@ fn command(reader: &mut Reader) -> Option<Command> {
             0 => Command::Zero(reader.set()?),
             1 => Command::Erase(reader.set()?),
             2 => Command::New(reader.set()?),
-            3 => Command::Move(move_line(reader)?),
-            4 => {
+            3 => {
+                let hash = reader.hash()?;
+                Command::Move(move_line(reader, hash)?)
+            }
+            4 => Command::Bsdiff(bsdiff_line(reader)?),
+            5 => {
                 let hash = reader.hash()?;
                 reader.byte(b' ')?;
                 Command::Stash(hash, reader.set()?)
@@ -91,9 +106,20 @@ fn command(reader: &mut Reader) -> Option<Command> {
     None
 }
 
-/// What follows `move ` up to the LF.
-fn move_line(reader: &mut Reader) -> Option<Move> {
+/// What follows `bsdiff ` up to the LF.
+fn bsdiff_line(reader: &mut Reader) -> Option<Bsdiff> {
+    let from = reader.number()?;
+    reader.byte(b' ')?;
+    let bytes = reader.number()?;
+    reader.byte(b' ')?;
     let hash = reader.hash()?;
+    reader.byte(b' ')?;
+    let result = reader.hash()?;
+    Some(Bsdiff { from, bytes, result, line: move_line(reader, hash)? })
+}
+
+/// What follows the hashes of a `move` or a `bsdiff`, up to the LF.
+fn move_line(reader: &mut Reader, hash: Hash) -> Option<Move> {
     reader.byte(b' ')?;
     let target = reader.set()?;
     reader.byte(b' ')?;

@@ -1,7 +1,7 @@
 //! The areas, the list's length and the header.
 
 use super::text::Reader;
-use crate::{Lengths, Refusal, BLOCK, MOST_AREA, MOST_IMAGE, MOST_LIST, MOST_STASHES};
+use crate::{Lengths, Refusal, BLOCK, MOST_AREA, MOST_IMAGE, MOST_LIST, MOST_RESULT, MOST_STASHES};
 
 /// Lines 2 to 4, and where the first command line starts.
 pub struct Header {
@@ -13,8 +13,11 @@ pub struct Header {
 
 /// The header of a list for areas of these lengths; or 1 to 5.
 pub fn header(list: &[u8], lengths: &Lengths) -> Result<Header, Refusal> {
-    if !good_area(lengths.image, MOST_IMAGE) || !good_area(lengths.stash, MOST_AREA) || !good_area(lengths.work, MOST_AREA) {
-        return Err(Refusal { number: 1, line: 0 });
+    let areas = [(lengths.image, MOST_IMAGE), (lengths.stash, MOST_AREA), (lengths.work, MOST_AREA), (lengths.result, MOST_RESULT)];
+    for (bytes, most) in areas {
+        if bytes % BLOCK != 0 || bytes / BLOCK > most {
+            return Err(Refusal { number: 1, line: 0 });
+        }
     }
     if lengths.list > MOST_LIST {
         return Err(Refusal { number: 2, line: 0 });
@@ -30,10 +33,6 @@ pub fn header(list: &[u8], lengths: &Lengths) -> Result<Header, Refusal> {
         return Err(Refusal { number: 5, line: 4 });
     }
     Ok(header)
-}
-
-fn good_area(bytes: usize, most: usize) -> bool {
-    bytes % BLOCK == 0 && bytes / BLOCK <= most
 }
 
 /// The version and the other lines; or 3.

@@ -5,6 +5,7 @@ mod check;
 mod command;
 mod header;
 mod open;
+mod patch;
 mod sparse;
 mod stashes;
 mod text;

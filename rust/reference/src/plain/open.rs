@@ -1,13 +1,13 @@
 //! Opening.
 
 use super::check::check;
-use super::command::{decode, Command, Move};
+use super::command::{decode, Bsdiff, Command, Move};
 use super::header;
-use crate::{Lengths, Refusal, State};
+use crate::{Lengths, Refusal, Rooms, State};
 
-/// Opens a list for areas of these lengths in bytes.
-pub fn open(list: &[u8], image: usize, stash: usize, work: usize) -> State {
-    let lengths = Lengths { list: list.len(), image, stash, work };
+/// Opens a list for areas and patch data of these lengths.
+pub fn open(list: &[u8], rooms: Rooms) -> State {
+    let lengths = Lengths::of(list, rooms);
     match opening(list, &lengths) {
         Ok(at) => State { line: 5, at, lengths, ..State::ZERO },
         Err(refusal) => State { refusal, ..State::ZERO },
@@ -26,7 +26,8 @@ fn opening(list: &[u8], lengths: &Lengths) -> Result<usize, Refusal> {
         let (command, next) = decode(list, at).map_err(refuse)?;
         check(list, &header, lengths, &held, &command).map_err(refuse)?;
         match command {
-            Command::New(target) | Command::Zero(target) | Command::Move(Move { target, .. }) => total += target.blocks,
+            Command::New(target) | Command::Zero(target) => total += target.blocks,
+            Command::Move(Move { target, .. }) | Command::Bsdiff(Bsdiff { line: Move { target, .. }, .. }) => total += target.blocks,
             Command::Stash(hash, source) => held.hold(&hash, source.blocks as usize),
             Command::Free(hash) => {
                 if let Some(j) = held.find(&hash) {

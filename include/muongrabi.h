@@ -225,7 +225,9 @@ muongrabi_state muongrabi_open(const uint8_t *list, size_t list_length, size_t i
  * runs, so that a line altered since then is refused where it stands. Line 2 is the opening's alone (15).
  *
  * A `bsdiff` puts its source together in the work area, and what the patch makes of it in the result area; only where both have their
- * hashes is the result written to the image.
+ * hashes is the result written to the image. A patch is bsdiff's control triples and bytes unpacked, not a file that bsdiff wrote: records to
+ * its end, each the two bytes 0x43 0x50; add length, extra length and seek, eight bytes each as bsdiff has them (lowest first, the top bit of
+ * the last one the sign); the bytes to add to the source's; the extra bytes.
  */
 muongrabi_answer muongrabi_call(const uint8_t *list, size_t list_length,
                                 uint8_t *image, size_t image_length,

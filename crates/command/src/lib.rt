@@ -1,4 +1,4 @@
-// A line of a purpose list, read as a command.
+// A line of a transfer list, read as a command.
 ghost use mathlib.Core.Path.{_≡_};
 ghost use Rattle.text.specs.Expected.{onExpected};
 ghost use Rattle.ranges.specs.Ranges.{onRanges};
@@ -8,7 +8,6 @@ use crate::bsdiff::bsdiff_line;
 use crate::field::read_hash_field;
 use crate::field::read_last_set;
 use crate::source::Source;
-use crate::sourced::Patching;
 use crate::sourced::Purpose;
 use crate::sourced::read_target;
 use crate::word::HashWord;
@@ -24,6 +23,7 @@ use text::hash::HASH_BYTES;
 mod bsdiff;
 pub mod field;
 pub mod parts;
+pub mod patching;
 pub mod source;
 pub mod sourced;
 pub mod targets;
@@ -40,7 +40,6 @@ pub enum Command {
         source: Source,
     },
     Bsdiff {
-        patching: Patching,
         target: RangeSet,
         length: u32,
         source: Source,

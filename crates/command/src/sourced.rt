@@ -11,18 +11,10 @@ use ranges::RangeSet;
 use ranges::Ranges;
 use text::number::Number;
 
-// The patch of a `bsdiff`: where it starts in the patch data, O, and its bytes, B; and where the digest of what it makes, T, stands in the
-// line.
-pub struct Patching {
-    pub start: u32,
-    pub length: u32,
-    pub digest: usize,
-}
-
 // What a source is put together for.
 pub(crate) enum Purpose {
     Move,
-    Bsdiff(Patching),
+    Bsdiff,
 }
 
 fn command_for(purpose: Purpose, target: RangeSet, length: u32, source: Source) -> Command
@@ -34,8 +26,7 @@ fn command_for(purpose: Purpose, target: RangeSet, length: u32, source: Source) 
             length,
             source,
         },
-        Purpose::Bsdiff(patching) => Command::Bsdiff {
-            patching,
+        Purpose::Bsdiff => Command::Bsdiff {
             target,
             length,
             source,

@@ -23,7 +23,6 @@ pub fn new_target(command: Command) -> NewTarget
             source: _,
         } => NewTarget::None,
         Command::Bsdiff {
-            patching: _,
             target: _,
             length: _,
             source: _,

@@ -1,6 +1,6 @@
 -- Document 01, "Calls", last paragraph, and document 02, R-4: what the program decides about its files.
 -- Assumes nothing: these are definitions.
-use Prim.Native.Nat.{ℕ, _*_, _%_}
+use Prim.Native.Nat.{ℕ, _*_, _%_, min}
 use mathlib.Core.Bool.{Bool, false}
 use mathlib.Core.List.{List}
 use lib.Dec.{eqb, leb}
@@ -32,6 +32,14 @@ areaBytes = 3 * blockBytes
 abbrev pub pieceBytes : ℕ
 pieceBytes = 4096
 
+-- the first 4,096 bytes of a patch file
+abbrev pub mostPatch : ℕ
+mostPatch = 4096
+
+-- as many of its bytes are lent
+abbrev pub lentPatch : ℕ → ℕ
+lentPatch bytes = min bytes mostPatch
+
 -- whole blocks, at most 8
 abbrev pub isImage : ℕ → Bool
 isImage bytes = both (eqb (bytes % blockBytes) 0) (leb bytes mostImage)
@@ -43,7 +51,7 @@ sizeRefusal list image =
     (pick (no (leb list mostList)) (record { number = listLength; line = 0 })
     (record { number = none; line = 0 }))
 
--- the list is opened over areas of 3 blocks each
+-- the list is opened over areas of 3 blocks each, and patch data
 abbrev pub openedWith : List ℕ → ℕ → ℕ → State
 openedWith s image patch = openState s (lengthsOf s image areaBytes areaBytes areaBytes patch)
 

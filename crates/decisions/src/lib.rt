@@ -1,6 +1,6 @@
 // What is decided about the files of an update.
 ghost use mathlib.Core.Path.{_≡_};
-ghost use Rattle.decisions.specs.Program.{isImage, sizeRefusal, openedWith, callsOn};
+ghost use Rattle.decisions.specs.Program.{isImage, sizeRefusal, lentPatch, openedWith, callsOn};
 use state::Refusal;
 use state::State;
 use state::limits::BLOCK_BYTES;
@@ -19,7 +19,6 @@ pub const IMAGE_BYTES: usize = IMAGE_BLOCKS * BLOCK_BYTES;
 
 pub const AREA_BYTES: usize = 3 * BLOCK_BYTES;
 
-// As much of the patch file as is lent.
 pub const PATCH_BYTES: usize = 4096;
 
 // Whole blocks, and not over the most.
@@ -51,6 +50,16 @@ pub fn size_refusal(list: usize, image: usize) -> Refusal
         };
     }
     Refusal { number: 0, line: 0 }
+}
+
+// As much of a patch file of that length as is lent.
+pub fn lent_patch(bytes: usize) -> usize
+    ensures { λ r. ⌜ r ≡ lentPatch bytes ⌝ }
+{
+    if bytes < PATCH_BYTES {
+        return bytes;
+    }
+    PATCH_BYTES
 }
 
 // Opens the list over an image and patch data of those lengths and the program's own areas.

@@ -72,7 +72,7 @@ pub extern "C" fn muongrabi_digest(bytes: &[u8], out: &mut [u8; 20])
     *out = sha1::digest(bytes);
 }
 
-// Opens a list over areas of the given lengths in bytes.
+// Opens a list over areas and patch data of the given lengths in bytes.
 #[no_mangle]
 pub extern "C" fn muongrabi_open(
     list: &[u8],

@@ -19,6 +19,7 @@ use decisions::LIST_BYTES;
 use decisions::PATCH_BYTES;
 use decisions::answer::answer_line;
 use decisions::calls_on;
+use decisions::lent_patch;
 use decisions::open_list;
 use decisions::size_refusal;
 use libc::STDOUT_FILENO;
@@ -36,6 +37,8 @@ mod write_back;
 const LIST_ROOM: usize = LIST_BYTES + 1;
 
 const IMAGE_ROOM: usize = IMAGE_BYTES + 1;
+
+const PATCH_ROOM: usize = PATCH_BYTES + 1;
 
 const PIECE_BYTES: usize = 4096;
 
@@ -165,10 +168,11 @@ pub fn update(
     let Loaded::Bytes(n) = read_file(list_path, &mut list) else {
         return;
     };
-    let mut patch = [0u8; PATCH_BYTES];
+    let mut patch = [0u8; PATCH_ROOM];
     let Loaded::Bytes(p) = read_file(patch_path, &mut patch) else {
         return;
     };
+    let lent = lent_patch(p);
     let Opened::At(image) = check_opened(os::open_update(image_path), image_path) else {
         return;
     };
@@ -178,7 +182,7 @@ pub fn update(
     };
     update_opened(
         &list[..n],
-        &patch[..p],
+        &patch[..lent],
         image,
         image_path,
         data,

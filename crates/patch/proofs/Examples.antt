@@ -1,5 +1,5 @@
--- `isPatch` and `patchedBy` worked out for small patches, at the bounds above all. Definitions with a bound moved do not agree with this,
--- even if the code is moved along.
+-- `isPatch` and `patchedBy` worked out for small patches, at the bounds above all: definitions that are moved together with their code do not
+-- agree with this.
 -- Assumes nothing.
 use mathlib.Core.Path.{_≡_, refl}
 use mathlib.Core.Bool.{Bool, true, false}
@@ -59,6 +59,16 @@ pub add-bound : isPatch (triple (plus 0) (plus 0) (farthest 0) ++ (triple (plus 
 unfolding isPatch recordsFrom recordsAt resultSize recordAt canMove moved twoAt fourAt eightAt
 add-bound = refl
 
+-- the mark is 43 50 (hex), in this order
+pub other-mark : isPatch (80 ∷ 67 ∷ (plus 0 ++ (plus 0 ++ plus 0))) 0 ≡ false
+unfolding isPatch recordsFrom recordsAt resultSize recordAt canMove moved twoAt fourAt eightAt
+other-mark = refl
+
+-- the add bytes are there, and so are the extra bytes
+pub bytes-missing : (isPatch (triple (plus 1) (plus 0) (plus 0)) 1 ≡ false) × (isPatch (triple (plus 0) (plus 1) (plus 0)) 1 ≡ false)
+unfolding isPatch recordsFrom recordsAt resultSize recordAt canMove moved twoAt fourAt eightAt
+bytes-missing = (refl, refl)
+
 -- no byte is left over
 pub left-over : isPatch (triple (plus 0) (plus 0) (plus 0) ++ (67 ∷ [])) 0 ≡ false
 unfolding isPatch recordsFrom recordsAt resultSize recordAt canMove moved twoAt fourAt eightAt
@@ -77,6 +87,14 @@ small-sizes = (refl, refl, refl)
 pub small-result : patchedBy small (10 ∷ 20 ∷ []) ≡ 11 ∷ 14 ∷ 9 ∷ []
 unfolding patchedBy recordsFrom recordsAt resultOf recordResult added sourceAt recordAt canMove moved twoAt fourAt eightAt
 small-result = refl
+
+-- the add length moves the position, and the extra length does not
+abbrev two-records : List ℕ
+two-records = triple (plus 1) (plus 2) (plus 0) ++ (1 ∷ 8 ∷ 9 ∷ (triple (plus 1) (plus 0) (plus 0) ++ (1 ∷ [])))
+
+pub position-moved : patchedBy two-records (10 ∷ 20 ∷ 30 ∷ []) ≡ 11 ∷ 8 ∷ 9 ∷ 21 ∷ []
+unfolding patchedBy recordsFrom recordsAt resultOf recordResult added sourceAt recordAt canMove moved twoAt fourAt eightAt
+position-moved = refl
 
 -- from the position before the source to the one past it
 pub around : patchedBy (triple (plus 0) (plus 0) (minus 1) ++ (triple (plus 3) (plus 0) (plus 0) ++ (5 ∷ 6 ∷ 7 ∷ []))) (10 ∷ []) ≡ 5 ∷ 16 ∷ 7 ∷ []

@@ -1,4 +1,4 @@
--- Document 01, "Calls", and document 02, R-4: 17, the states that a list and its areas can have.
+-- Document 01, "Calls", and document 02, R-4: 17, the states that a list can have with its areas and its patch data.
 -- Assumes nothing: these are definitions.
 use Prim.Native.Nat.{ℕ, _-_, _*_}
 use mathlib.Core.Bool.{Bool, false}

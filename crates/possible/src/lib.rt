@@ -1,4 +1,4 @@
-// States that a list and its areas can have.
+// States that a list can have with its areas and its patch data.
 ghost use mathlib.Core.Path.{_≡_};
 ghost use Prim.Native.Nat.{_-_};
 ghost use Rattle.state.specs.Stashes.{tableAt};
@@ -114,7 +114,7 @@ fn can_be_into(list: &[u8], terms: Terms, at: usize, into: usize) -> bool
     has_more(terms, into, command)
 }
 
-// The state is one that this list can have with areas of these lengths.
+// The state is one that this list can have with areas and patch data of these lengths.
 pub fn is_possible(list: &[u8], lengths: Lengths, s: State) -> bool
     ensures { λ r. ⌜ r ≡ isPossible (now (list .entry)) lengths s ⌝ }
 {

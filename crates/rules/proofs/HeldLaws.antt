@@ -41,7 +41,7 @@ module _ (l : List ℕ) (terms : Terms) (t : Table) (hash : List ℕ) (w : Whole
     held-after (command.Erase set) e = refl
     held-after (command.New set) e = refl
     held-after (command.Move target n source) e = refl
-    held-after (command.Bsdiff patching target n source) e = refl
+    held-after (command.Bsdiff target n source) e = refl
     held-after (command.Stash set) e =
         let f = stash-fits l terms (heldIn t) hash e refl in
         hold-held t hash (set .blocks) w (omega (arith, f .count, whole-held w)) size
@@ -55,7 +55,7 @@ module _ (l : List ℕ) (terms : Terms) (t : Table) (hash : List ℕ) (w : Whole
   table-whole size (command.Erase set) = w
   table-whole size (command.New set) = w
   table-whole size (command.Move target n source) = w
-  table-whole size (command.Bsdiff patching target n source) = w
+  table-whole size (command.Bsdiff target n source) = w
   table-whole size (command.Stash set) = hold-whole t hash (set .blocks) w size
   table-whole size command.Free = released-whole (findIn (heldIn t) hash)
   table-whole size command.Unsupported = w
@@ -69,7 +69,7 @@ module _ (l : List ℕ) (terms : Terms) (stashes : List Stash) (hash : List ℕ)
   good-command (command.Erase set) e = tt
   good-command (command.New set) e = tt
   good-command (command.Move target n source) e = tt
-  good-command (command.Bsdiff patching target n source) e = tt
+  good-command (command.Bsdiff target n source) e = tt
   good-command (command.Stash set) e = tt
   good-command command.Free e = tt
   good-command command.Unsupported e = not-unsupported l terms stashes hash e refl
@@ -83,7 +83,7 @@ module _ (l : List ℕ) (terms : Terms) (stashes : List Stash) (hash : List ℕ)
   held-blocks (command.Erase set) e h = h
   held-blocks (command.New set) e h = h
   held-blocks (command.Move target n source) e h = h
-  held-blocks (command.Bsdiff patching target n source) e h = h
+  held-blocks (command.Bsdiff target n source) e h = h
   held-blocks (command.Stash set) e h =
       let f = stash-fits l terms stashes hash e refl in
       omega (arith, f .room, blocks-held-append stashes (record { hash = hash; blocks = set .blocks } ∷ []))
@@ -103,7 +103,7 @@ module _ (l : List ℕ) (terms : Terms) (stashes : List Stash) (hash : List ℕ)
   after-once (command.Erase set) e h = h
   after-once (command.New set) e h = h
   after-once (command.Move target n source) e h = h
-  after-once (command.Bsdiff patching target n source) e h = h
+  after-once (command.Bsdiff target n source) e h = h
   after-once (command.Stash set) e h =
       twice-append stashes (record { hash = hash; blocks = set .blocks }) h (stash-fits l terms stashes hash e refl .unheld)
   after-once command.Free e h = go (findIn stashes hash)

@@ -18,7 +18,7 @@ heldAfter held hash (command.Zero set) = held
 heldAfter held hash (command.Erase set) = held
 heldAfter held hash (command.New set) = held
 heldAfter held hash (command.Move target n source) = held
-heldAfter held hash (command.Bsdiff patching target n source) = held
+heldAfter held hash (command.Bsdiff target n source) = held
 heldAfter held hash (command.Stash set) = held ++ (record { hash = hash; blocks = set .blocks } ∷ [])
 heldAfter held hash command.Free = dropFound held (findIn held hash)
 heldAfter held hash command.Unsupported = held
@@ -34,7 +34,7 @@ tableAfter t hash (command.Zero set) = t
 tableAfter t hash (command.Erase set) = t
 tableAfter t hash (command.New set) = t
 tableAfter t hash (command.Move target n source) = t
-tableAfter t hash (command.Bsdiff patching target n source) = t
+tableAfter t hash (command.Bsdiff target n source) = t
 tableAfter t hash (command.Stash set) = holding t hash (set .blocks)
 tableAfter t hash command.Free = releaseFound t (findIn (heldIn t) hash)
 tableAfter t hash command.Unsupported = t

@@ -38,7 +38,6 @@ pub fn hold_after(
             source: _,
         } => count,
         Command::Bsdiff {
-            patching: _,
             target: _,
             length: _,
             source: _,

@@ -133,7 +133,6 @@ fn check_command<'a>(
             source,
         ),
         Command::Bsdiff {
-            patching,
             target,
             length,
             source,
@@ -143,7 +142,6 @@ fn check_command<'a>(
             hashes,
             sizes,
             count,
-            patching,
             target,
             length as usize,
             source,

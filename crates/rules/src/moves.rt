@@ -11,8 +11,9 @@ use crate::Terms;
 use crate::places::places_fit;
 use command::parts::PartRead;
 use command::parts::read_part;
+use command::patching::Patching;
+use command::patching::read_patching;
 use command::source::Source;
-use command::sourced::Patching;
 use ranges::RangeSet;
 use state::limits::HASH_BYTES;
 use state::limits::MOST_AREA_BLOCKS;
@@ -300,14 +301,13 @@ pub(crate) fn check_bsdiff<'a>(
     hashes: &'a [u8; TABLE_BYTES],
     sizes: &'a [usize; MOST_STASHES],
     count: usize,
-    patching: Patching,
     target: RangeSet,
     n: usize,
     source: Source,
 ) -> usize
     requires { ⌜ n < bound ⌝ }
     ensures { λ r. ⌜ r ≡
-        bsdiffRefusal (now (l .entry)) terms (heldIn (tableAt (now (hashes .entry)) (now (sizes .entry)) count)) patching target n source ⌝ }
+        bsdiffRefusal (now (l .entry)) terms (heldIn (tableAt (now (hashes .entry)) (now (sizes .entry)) count)) target n source ⌝ }
 {
     let over = terms.result < target.blocks;
     let refusal = check_sourced(
@@ -325,7 +325,7 @@ pub(crate) fn check_bsdiff<'a>(
     if refusal != 0 {
         return refusal;
     }
-    if is_past_patch(terms, patching) {
+    if is_past_patch(terms, read_patching(l)) {
         return PAST_PATCH;
     }
     0

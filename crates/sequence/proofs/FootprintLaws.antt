@@ -11,7 +11,7 @@ use lib.Dec.{ltb, eqb}
 use lib.ListN.{length, take, set, length-take}
 use Rattle.text.specs.Line.{lineAt}
 use Rattle.text.proofs.ChoiceLaws.{picks, both-true, either-false}
-use Rattle.text.specs.Hash.{hashAt}
+use Rattle.command.specs.Patching.{patchingOf, resultHash}
 use Rattle.ranges.specs.Walk.{blocksAt, AllBelow}
 use Rattle.ranges.specs.declared.RangeSet.{RangeSet}
 use Rattle.state.specs.Limits.{blockBytes}
@@ -27,7 +27,7 @@ use Rattle.command.specs.Targets.{newTarget, onNewTarget, targetBlocks}
 use Rattle.command.specs.declared.targets.NewTarget.{NewTarget}
 use Rattle.command.specs.declared.targets.NewTarget.the-variants as new
 use Rattle.command.specs.declared.source.Source.{Source}
-use Rattle.command.specs.declared.sourced.Patching.{Patching}
+use Rattle.command.specs.declared.patching.Patching.{Patching}
 use Rattle.command.specs.declared.Command.{Command}
 use Rattle.command.specs.declared.Command.the-variants as command
 use Rattle.rules.specs.Rules.{refusalFor, refusalOf}
@@ -101,17 +101,17 @@ writes-then e f =
 -- what a patch changes, with the source in the work area
 patch-writes : (l : List ℕ) (k : ℕ) (a : Areas) (patching : Patching) (target : RangeSet) (n : ℕ) (source : Source) →
     AllBelow (length (a .image) / blockBytes) (blocksAt l (target .at)) → target .blocks ≤ length (a .result) / blockBytes →
-    Writes l (command.Bsdiff patching target n source) k a (patchEffect l patching target n a .areas)
+    Writes l (command.Bsdiff target n source) k a (patchEffect l patching target n a .areas)
 unfolding patchEffect resultEffect targetBlocks resultLength
 patch-writes l k a patching target n source below room =
-    let c = command.Bsdiff patching target n source in
+    let c = command.Bsdiff target n source in
     let p = patchOf patching a in
     let bytes = patchedBy p (take (blockBytes * n) (a .work)) in
     picks (λ (x : Effect). Writes l c k a (x .areas)) (isPatch p (blockBytes * target .blocks)) _ _
     (λ g.
     let size = patched-length p (take (blockBytes * n) (a .work)) (blockBytes * target .blocks) g in
     let made = writes-result (over-same (a .result) 0 bytes (target .blocks) (omega arith) (omega arith)) in
-    picks (λ (x : Effect). Writes l c k a (x .areas)) (hashesTo _ (target .blocks) (hashAt l (patching .digest) .bytes)) _ _
+    picks (λ (x : Effect). Writes l c k a (x .areas)) (hashesTo _ (target .blocks) (resultHash l (patching .hashes))) _ _
     (λ h. writes-then made (writes-image (written-same (blocksAt l (target .at)) _ (a .image) below)))
     (λ h. made))
     (λ g. writes-nothing l c k a)
@@ -143,12 +143,12 @@ module _ (l : List ℕ) (terms : Terms) (held : List Stash) (hash : List ℕ) (a
       let filled = writes-work (together-same l (a .stash) held n terms (a .image) source (a .work) (f .from) (r .room)) in
       verified-writes (command.Move target n source) n (done (targetWritten l target n)) (withWork a w) filled
       (writes-then filled (writes-image (written-same (blocksAt l (target .at)) (take (blockBytes * n) w) (a .image) (r .goal .below))))
-  effect-writes (command.Bsdiff patching target n source) e r =
+  effect-writes (command.Bsdiff target n source) e r =
       let w = together l (a .image) (a .stash) held source (a .work) in
       let f = bsdiff-fits l terms held hash e refl in
       let filled = writes-work (together-same l (a .stash) held n terms (a .image) source (a .work) (f .from) (r .patched .room)) in
-      verified-writes (command.Bsdiff patching target n source) n (patchEffect l patching target n) (withWork a w) filled
-      (writes-then filled (patch-writes l (terms .blocks) (withWork a w) patching target n source (r .patched .goal .below) (r .patched .holds)))
+      verified-writes (command.Bsdiff target n source) n (patchEffect l (patchingOf l) target n) (withWork a w) filled
+      (writes-then filled (patch-writes l (terms .blocks) (withWork a w) (patchingOf l) target n source (r .patched .goal .below) (r .patched .holds)))
   effect-writes (command.Stash set) e r =
       let w = supplied l (a .image) (set .at) (set .blocks) (a .work) in
       let f = stash-fits l terms held hash e refl in

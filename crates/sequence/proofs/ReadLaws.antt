@@ -1,5 +1,5 @@
 -- Of the image a command reads its source blocks alone: over images that are alike there, the same source is put together, its hash
--- differs or not alike, and the same is stashed.
+-- differs or not alike, and the same is patched and stashed.
 -- Assumes nothing.
 use mathlib.Core.Path.{_≡_, refl, sym, _∙_}
 use mathlib.Core.Bool.{Bool, true, false}
@@ -20,7 +20,7 @@ use Rattle.command.specs.declared.source.Source.{Source}
 use Rattle.command.specs.declared.source.Source.the-variants.{Blocks, Stashes, Both}
 use Rattle.command.specs.declared.Command.the-variants as command
 use Rattle.rules.specs.Move.{isIn}
-use Rattle.text.specs.Hash.{hashAt}
+use Rattle.command.specs.Patching.{patchingOf, resultHash}
 use Rattle.patch.specs.Patch.{isPatch}
 use Rattle.updater.specs.Bytes.{blockAt, gathered}
 use Rattle.updater.specs.Source.{supplied, together, hashesTo}
@@ -88,13 +88,14 @@ only-read l held hash (command.New set) a image f = alike refl refl refl refl
 only-read l held hash (command.Move target n source) a image f =
     rw (together-reads l (a .stash) held source (a .work) f)
     (alike-pick (hashesTo (together l (a .image) (a .stash) held source (a .work)) n hash) (alike refl refl refl refl) (alike refl refl refl refl))
-only-read l held hash (command.Bsdiff patching target n source) a image f =
+only-read l held hash (command.Bsdiff target n source) a image f =
     let work = together l (a .image) (a .stash) held source (a .work) in
+    let patching = patchingOf l in
     let made = resultMade patching n (withWork a work) .result in
     rw (together-reads l (a .stash) held source (a .work) f)
     (alike-pick (hashesTo work n hash)
     (alike-pick (isPatch (patchOf patching a) (blockBytes * target .blocks))
-    (alike-pick (hashesTo made (target .blocks) (hashAt l (patching .digest) .bytes)) (alike refl refl refl refl) (alike refl refl refl refl))
+    (alike-pick (hashesTo made (target .blocks) (resultHash l (patching .hashes))) (alike refl refl refl refl) (alike refl refl refl refl))
     (alike refl refl refl refl))
     (alike refl refl refl refl))
 only-read l held hash (command.Stash set) a image f =

@@ -44,7 +44,7 @@ unfoldable pub countedBlocks : Command → ℕ
 countedBlocks (command.New target) = target .blocks
 countedBlocks (command.Zero target) = target .blocks
 countedBlocks (command.Move target n source) = target .blocks
-countedBlocks (command.Bsdiff patching target n source) = target .blocks
+countedBlocks (command.Bsdiff target n source) = target .blocks
 -- the others add nothing
 countedBlocks (command.Erase target) = 0
 countedBlocks (command.Stash set) = 0

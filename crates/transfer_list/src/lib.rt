@@ -55,7 +55,6 @@ fn counted_blocks(command: Command) -> usize
             source: _,
         } => target.blocks,
         Command::Bsdiff {
-            patching: _,
             target,
             length: _,
             source: _,

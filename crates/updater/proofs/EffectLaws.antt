@@ -9,7 +9,6 @@ use Prim.Native.Nat.{ℕ, _+_, _-_, _*_, _/_}
 use native.Mathlib.Omega.{arith}
 use lib.ListN.{length, take, length-take}
 use Rattle.text.proofs.ChoiceLaws.{picks}
-use Rattle.text.specs.Hash.{hashAt}
 use Rattle.ranges.specs.Walk.{blocksAt, AllBelow}
 use Rattle.ranges.specs.declared.RangeSet.{RangeSet}
 use Rattle.state.specs.Limits.{blockBytes}
@@ -21,7 +20,8 @@ use Rattle.state.proofs.StashLaws.{blocks-held-before}
 use Rattle.command.specs.declared.Command.{Command}
 use Rattle.command.specs.declared.Command.the-variants as command
 use Rattle.command.specs.declared.source.Source.{Source}
-use Rattle.command.specs.declared.sourced.Patching.{Patching}
+use Rattle.command.specs.Patching.{patchingOf, resultHash}
+use Rattle.command.specs.declared.patching.Patching.{Patching}
 use Rattle.patch.specs.Patch.{isPatch, patchedBy}
 use Rattle.patch.proofs.PatchLaws.{patched-length}
 use Rattle.updater.specs.Areas.{Areas, withImage, withStash, withWork, withResult, SameLengths}
@@ -59,15 +59,14 @@ module _ (l : List ℕ) (xs : List Stash) (hash : List ℕ) (a : Areas) where
     move-differs h = rw (← e, h)
 
     -- `bsdiff` likewise
-    pub bsdiff-differs : (patching : Patching) → hashesTo work n hash ≡ false →
-        effectOf (withWork a work) hashDiffers ≡ bsdiffEffect l xs hash patching target n source a
+    pub bsdiff-differs : hashesTo work n hash ≡ false → effectOf (withWork a work) hashDiffers ≡ bsdiffEffect l xs hash target n source a
     unfolding bsdiffEffect
-    bsdiff-differs patching h = rw (← e, h)
+    bsdiff-differs h = rw (← e, h)
 
-    pub bsdiff-goes : (patching : Patching) {x : Effect} → hashesTo work n hash ≡ true →
-        x ≡ patchEffect l patching target n (withWork a work) → x ≡ bsdiffEffect l xs hash patching target n source a
+    pub bsdiff-goes : {patching : Patching} {x : Effect} → hashesTo work n hash ≡ true → patching ≡ patchingOf l →
+        x ≡ patchEffect l patching target n (withWork a work) → x ≡ bsdiffEffect l xs hash target n source a
     unfolding bsdiffEffect
-    bsdiff-goes patching h f = rw (← e, h) f
+    bsdiff-goes h p f = rw (← e, h, ← p) f
 
   -- `stash`, with the work area that S leaves
   module _ (set : RangeSet) {work : List ℕ} (e : work ≡ supplied l (a .image) (set .at) (set .blocks) (a .work)) where
@@ -102,7 +101,7 @@ module _ (l : List ℕ) (patching : Patching) (target : RangeSet) (n : ℕ) (a :
 
 -- .. and with its result in the result area
 module _ (l : List ℕ) (patching : Patching) (target : RangeSet) (a : Areas) {same : Bool}
-    (is : same ≡ hashesTo (a .result) (target .blocks) (hashAt l (patching .digest) .bytes)) where
+    (is : same ≡ hashesTo (a .result) (target .blocks) (resultHash l (patching .hashes))) where
   pub result-differs : same ≡ false → effectOf a hashDiffers ≡ resultEffect l patching target a
   unfolding resultEffect
   result-differs h = rw (← is, h)
@@ -143,8 +142,8 @@ module _ (l : List ℕ) (xs : List Stash) (hash : List ℕ) (a : Areas) {c : Com
   unfolding effect
   effect-move e = rw e
 
-  pub effect-bsdiff : {patching : Patching} {target : RangeSet} {n : ℕ} {source : Source} → c ≡ command.Bsdiff patching target n source →
-      effect l xs hash c a ≡ bsdiffEffect l xs hash patching target n source a
+  pub effect-bsdiff : {target : RangeSet} {n : ℕ} {source : Source} → c ≡ command.Bsdiff target n source →
+      effect l xs hash c a ≡ bsdiffEffect l xs hash target n source a
   unfolding effect
   effect-bsdiff e = rw e
 
@@ -179,8 +178,8 @@ module _ (l : List ℕ) (xs : List Stash) (a : Areas) {c : Command} where
   unfolding Runnable
   runs-move e h = subst (Runnable l xs a) e h
 
-  pub runs-bsdiff : {patching : Patching} {target : RangeSet} {n : ℕ} {source : Source} → c ≡ command.Bsdiff patching target n source →
-      Runnable l xs a c → BsdiffRuns l xs a patching target n source
+  pub runs-bsdiff : {target : RangeSet} {n : ℕ} {source : Source} → c ≡ command.Bsdiff target n source →
+      Runnable l xs a c → BsdiffRuns l xs a target n source
   unfolding Runnable
   runs-bsdiff e h = subst (Runnable l xs a) e h
 
@@ -242,7 +241,7 @@ module _ (l : List ℕ) (a : Areas) (patching : Patching) (target : RangeSet) (n
       let below = subst (λ (k : ℕ). AllBelow (k / blockBytes) (blocksAt l (target .at))) (sym (e .image)) (h .goal .below) in
       let g = length-written (blocksAt l (target .at)) (take (blockBytes * target .blocks) (b .result)) (b .image) below
       (omega (arith, h .goal .size)) in
-      picks (λ (x : Effect). SameLengths a (x .areas)) (hashesTo (b .result) (target .blocks) (hashAt l (patching .digest) .bytes)) _ _
+      picks (λ (x : Effect). SameLengths a (x .areas)) (hashesTo (b .result) (target .blocks) (resultHash l (patching .hashes))) _ _
       (λ q. lengths-then e (image-lengths b g))
       (λ q. e)
 
@@ -295,14 +294,14 @@ module _ (l : List ℕ) (xs : List Stash) (hash : List ℕ) (a : Areas) where
   free-lengths k = stash-area-lengths a (closed-length (findIn xs hash) k)
 
   -- `bsdiff`: its patch runs over the work area that the source leaves
-  bsdiff-lengths : (patching : Patching) (target : RangeSet) (n : ℕ) (source : Source) → Keeps xs (a .stash) →
-      BsdiffRuns l xs a patching target n source → SameLengths a (bsdiffEffect l xs hash patching target n source a .areas)
+  bsdiff-lengths : (target : RangeSet) (n : ℕ) (source : Source) → Keeps xs (a .stash) →
+      BsdiffRuns l xs a target n source → SameLengths a (bsdiffEffect l xs hash target n source a .areas)
   unfolding bsdiffEffect
-  bsdiff-lengths patching target n source k h =
+  bsdiff-lengths target n source k h =
       let work = together l (a .image) (a .stash) xs source (a .work) in
       let w : length work ≡ length (a .work) = length-together l xs a source k (h .from) in
-      verified-lengths n hash (patchEffect l patching target n)
-      (lengths-then (work-lengths a w) (patch-lengths l (withWork a work) patching target n (patch-over (h .patched) w)))
+      verified-lengths n hash (patchEffect l (patchingOf l) target n)
+      (lengths-then (work-lengths a w) (patch-lengths l (withWork a work) (patchingOf l) target n (patch-over (h .patched) w)))
       (work-lengths a w)
 
   pub effect-lengths : (c : Command) → Keeps xs (a .stash) → Runnable l xs a c → SameLengths a (effect l xs hash c a .areas)
@@ -311,7 +310,7 @@ module _ (l : List ℕ) (xs : List Stash) (hash : List ℕ) (a : Areas) where
   effect-lengths (command.Erase set) k h = zero-lengths set h
   effect-lengths (command.New set) k h = lengths-refl a
   effect-lengths (command.Move target n source) k h = move-lengths target n source k h
-  effect-lengths (command.Bsdiff patching target n source) k h = bsdiff-lengths patching target n source k h
+  effect-lengths (command.Bsdiff target n source) k h = bsdiff-lengths target n source k h
   effect-lengths (command.Stash set) k h = stash-lengths set h
   effect-lengths command.Free k h = free-lengths k
   effect-lengths command.Unsupported k h = lengths-refl a
@@ -333,7 +332,7 @@ patch-stops : (l : List ℕ) (patching : Patching) (target : RangeSet) (n : ℕ)
 unfolding patchEffect resultEffect
 patch-stops l patching target n a =
     picks Stops (isPatch (patchOf patching a) (blockBytes * target .blocks)) _ _
-    (λ g. picks Stops (hashesTo (resultMade patching n a .result) (target .blocks) (hashAt l (patching .digest) .bytes)) _ _
+    (λ g. picks Stops (hashesTo (resultMade patching n a .result) (target .blocks) (resultHash l (patching .hashes))) _ _
     (λ h. inl refl) (λ h. inr (inl refl)))
     (λ g. inr (inr refl))
 
@@ -344,8 +343,8 @@ effect-refusal l xs hash (command.Zero set) a = inl refl
 effect-refusal l xs hash (command.Erase set) a = inl refl
 effect-refusal l xs hash (command.New set) a = inl refl
 effect-refusal l xs hash (command.Move target n source) a = verified-stops n hash (done (targetWritten l target n)) _ (inl refl)
-effect-refusal l xs hash (command.Bsdiff patching target n source) a =
-    verified-stops n hash (patchEffect l patching target n) _ (patch-stops l patching target n _)
+effect-refusal l xs hash (command.Bsdiff target n source) a =
+    verified-stops n hash (patchEffect l (patchingOf l) target n) _ (patch-stops l (patchingOf l) target n _)
 effect-refusal l xs hash (command.Stash set) a = verified-stops (set .blocks) hash (done (stashWritten xs (set .blocks))) _ (inl refl)
 effect-refusal l xs hash command.Free a = inl refl
 effect-refusal l xs hash command.Unsupported a = inl refl

@@ -47,7 +47,7 @@ is-new (command.Zero set) e = absurd (let z : _≡_ {A = ℕ} 0 1 = cc in omega 
 is-new (command.Erase set) e = absurd (let z : _≡_ {A = ℕ} 0 1 = cc in omega arith)
 is-new (command.New set) e = cc
 is-new (command.Move target n source) e = absurd (let z : _≡_ {A = ℕ} 0 1 = cc in omega arith)
-is-new (command.Bsdiff patching target n source) e = absurd (let z : _≡_ {A = ℕ} 0 1 = cc in omega arith)
+is-new (command.Bsdiff target n source) e = absurd (let z : _≡_ {A = ℕ} 0 1 = cc in omega arith)
 is-new (command.Stash set) e = absurd (let z : _≡_ {A = ℕ} 0 1 = cc in omega arith)
 is-new command.Free e = absurd (let z : _≡_ {A = ℕ} 0 1 = cc in omega arith)
 is-new command.Unsupported e = absurd (let z : _≡_ {A = ℕ} 0 1 = cc in omega arith)

@@ -7,7 +7,6 @@ use mathlib.Core.Path.{_≡_}
 use mathlib.Core.Logic.{_⊎_}
 use lib.ListN.{take, drop}
 use Rattle.text.specs.Choice.{pick}
-use Rattle.text.specs.Hash.{hashAt}
 use Rattle.ranges.specs.Walk.{blocksAt}
 use Rattle.ranges.specs.declared.RangeSet.{RangeSet}
 use Rattle.state.specs.Limits.{blockBytes}
@@ -18,7 +17,8 @@ use Rattle.state.specs.declared.stashes.Found.the-variants.{At, Nothing}
 use Rattle.command.specs.declared.Command.{Command}
 use Rattle.command.specs.declared.Command.the-variants as command
 use Rattle.command.specs.declared.source.Source.{Source}
-use Rattle.command.specs.declared.sourced.Patching.{Patching}
+use Rattle.command.specs.Patching.{patchingOf, resultHash}
+use Rattle.command.specs.declared.patching.Patching.{Patching}
 use Rattle.patch.specs.Patch.{isPatch, patchedBy}
 use Rattle.updater.specs.Areas.{Areas, withImage, withStash, withWork, withResult}
 use Rattle.copy.specs.Over.{over}
@@ -75,7 +75,7 @@ resultWritten l target a =
 -- the result goes to the image only when its hash is T
 unfoldable pub resultEffect : List ℕ → Patching → RangeSet → Areas → Effect
 resultEffect l patching target a =
-    pick (hashesTo (a .result) (target .blocks) (hashAt l (patching .digest) .bytes))
+    pick (hashesTo (a .result) (target .blocks) (resultHash l (patching .hashes)))
     (done (resultWritten l target) a)
     (effectOf a hashDiffers)
 
@@ -87,9 +87,9 @@ patchEffect l patching target n a =
     (effectOf a patchMalformed)
 
 -- `bsdiff`: the source is put together in the work area and, if its hash is H, patched
-unfoldable pub bsdiffEffect : List ℕ → List Stash → List ℕ → Patching → RangeSet → ℕ → Source → Areas → Effect
-bsdiffEffect l held hash patching target n source a =
-    verified n hash (patchEffect l patching target n) (withWork a (together l (a .image) (a .stash) held source (a .work)))
+unfoldable pub bsdiffEffect : List ℕ → List Stash → List ℕ → RangeSet → ℕ → Source → Areas → Effect
+bsdiffEffect l held hash target n source a =
+    verified n hash (patchEffect l (patchingOf l) target n) (withWork a (together l (a .image) (a .stash) held source (a .work)))
 
 -- n blocks of the work area go after the last stash
 abbrev pub stashWritten : List Stash → ℕ → Areas → Areas
@@ -116,7 +116,7 @@ effect l held hash (command.Zero set) a = zeroEffect l set a
 effect l held hash (command.Erase set) a = zeroEffect l set a
 effect l held hash (command.New set) a = effectOf a none
 effect l held hash (command.Move target n source) a = moveEffect l held hash target n source a
-effect l held hash (command.Bsdiff patching target n source) a = bsdiffEffect l held hash patching target n source a
+effect l held hash (command.Bsdiff target n source) a = bsdiffEffect l held hash target n source a
 effect l held hash (command.Stash set) a = stashEffect l held hash set a
 effect l held hash command.Free a = freeEffect held hash a
 effect l held hash command.Unsupported a = effectOf a none

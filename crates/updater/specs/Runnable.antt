@@ -16,7 +16,8 @@ use Rattle.command.specs.declared.Command.{Command}
 use Rattle.command.specs.declared.Command.the-variants as command
 use Rattle.command.specs.declared.source.Source.{Source}
 use Rattle.command.specs.declared.source.Source.the-variants.{Blocks, Stashes, Both}
-use Rattle.command.specs.declared.sourced.Patching.{Patching}
+use Rattle.command.specs.Patching.{patchingOf}
+use Rattle.command.specs.declared.patching.Patching.{Patching}
 use Rattle.updater.specs.Areas.{Areas}
 
 -- the whole blocks of an area
@@ -75,9 +76,8 @@ pub record PatchRuns (l image work result patch : List ℕ) (patching : Patching
   pub holds : target .blocks ≤ blocksIn result
   pub within : patching .start + patching .length ≤ length patch
 
-pub record BsdiffRuns (l : List ℕ) (stashes : List Stash) (a : Areas) (patching : Patching) (target : RangeSet) (n : ℕ) (source : Source) :
-    Type 0 where
-  pub patched : PatchRuns l (a .image) (a .work) (a .result) (a .patch) patching target n
+pub record BsdiffRuns (l : List ℕ) (stashes : List Stash) (a : Areas) (target : RangeSet) (n : ℕ) (source : Source) : Type 0 where
+  pub patched : PatchRuns l (a .image) (a .work) (a .result) (a .patch) (patchingOf l) target n
   pub from : Sourced l stashes (a .image) (a .work) source
 
 pub record StashRuns (l : List ℕ) (stashes : List Stash) (image stash work : List ℕ) (set : RangeSet) : Type 0 where
@@ -92,7 +92,7 @@ Runnable l stashes a (command.Zero set) = InImage l (a .image) set
 Runnable l stashes a (command.Erase set) = InImage l (a .image) set
 Runnable l stashes a (command.New set) = InImage l (a .image) set
 Runnable l stashes a (command.Move target n source) = MoveRuns l stashes (a .image) (a .work) target n source
-Runnable l stashes a (command.Bsdiff patching target n source) = BsdiffRuns l stashes a patching target n source
+Runnable l stashes a (command.Bsdiff target n source) = BsdiffRuns l stashes a target n source
 Runnable l stashes a (command.Stash set) = StashRuns l stashes (a .image) (a .stash) (a .work) set
 Runnable l stashes a command.Free = Unit {0}
 Runnable l stashes a command.Unsupported = Unit {0}

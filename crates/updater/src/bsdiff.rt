@@ -14,8 +14,10 @@ ghost use Rattle.updater.specs.Runnable.{Keeps, InImage, PatchRuns, Bsdi
 use crate::digest::has_hash;
 use crate::sets::write_set;
 use crate::source::put_together;
+use command::patching::Patching;
+use command::patching::read_patching;
+use command::patching::read_result_hash;
 use command::source::Source;
-use command::sourced::Patching;
 use patch::apply;
 use ranges::RangeSet;
 use state::limits::BLOCK_BYTES;
@@ -24,7 +26,6 @@ use state::limits::MOST_STASHES;
 use state::limits::TABLE_BYTES;
 use state::refusals::HASH_DIFFERS;
 use state::refusals::PATCH_MALFORMED;
-use text::hash::read_hash;
 
 // What the patch makes of a source, over the first bytes of the result area, as many as `size`; a malformed patch writes nothing.
 fn make_result(
@@ -58,8 +59,7 @@ fn write_result(
         effectOf (areasOf (now (image .exit)) stash work (now (result .entry)) patch) r
         ≡ resultEffect (now (l .entry)) patching target (areasOf (now (image .entry)) stash work (now (result .entry)) patch)) ⌝ }
 {
-    let t = read_hash(l, patching.digest);
-    let hash = t.bytes;
+    let hash = read_result_hash(l, patching.hashes);
     if !has_hash(result, target.blocks, hash) {
         return HASH_DIFFERS;
     }
@@ -103,7 +103,6 @@ pub(crate) fn run_bsdiff(
     hashes: &[u8; TABLE_BYTES],
     sizes: &[usize; MOST_STASHES],
     count: usize,
-    patching: Patching,
     target: RangeSet,
     n: usize,
     source: Source,
@@ -111,14 +110,15 @@ pub(crate) fn run_bsdiff(
 ) -> usize
     requires { ⌜ Keeps (heldIn (tableAt (now hashes) (now sizes) count)) (now stash) ⌝ }
     requires { ⌜ BsdiffRuns (now l) (heldIn (tableAt (now hashes) (now sizes) count))
-        (areasOf (now image) (now stash) (now work) (now result) (now patch)) patching target n source ⌝ }
+        (areasOf (now image) (now stash) (now work) (now result) (now patch)) target n source ⌝ }
     ensures { λ r. ⌜ effectOf (areasOf (now (image .exit)) (now (stash .entry)) (now (work .exit)) (now (result .exit)) (now (patch .entry))) r
-        ≡ bsdiffEffect (now (l .entry)) (heldIn (tableAt (now (hashes .entry)) (now (sizes .entry)) count)) hash patching target n source
+        ≡ bsdiffEffect (now (l .entry)) (heldIn (tableAt (now (hashes .entry)) (now (sizes .entry)) count)) hash target n source
         (areasOf (now (image .entry)) (now (stash .entry)) (now (work .entry)) (now (result .entry)) (now (patch .entry))) ⌝ }
 {
     put_together(&*image, stash, work, l, hashes, sizes, count, source);
     if !has_hash(&*work, n, hash) {
         return HASH_DIFFERS;
     }
+    let patching = read_patching(l);
     patch_source(image, &*work, result, patch, l, patching, target, n)
 }

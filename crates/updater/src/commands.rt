@@ -158,7 +158,6 @@ pub(crate) fn run_command(
             )
         }
         Command::Bsdiff {
-            patching,
             target,
             length,
             source,
@@ -174,7 +173,6 @@ pub(crate) fn run_command(
                 hashes,
                 sizes,
                 count,
-                patching,
                 target,
                 n,
                 source,

@@ -33,7 +33,7 @@ impl Refusal {
     pub const PAST_AREA: usize = 9;
     /// A stash named in `move`, `bsdiff` or `free` is not held.
     pub const NOT_HELD: usize = 10;
-    /// The sizes of target, source and places do not agree.
+    /// The sizes of target, source and places do not agree; the target of a `bsdiff` may have any.
     pub const SIZES_DIFFER: usize = 11;
     /// A place is at N or above, or taken twice.
     pub const MISPLACED: usize = 12;

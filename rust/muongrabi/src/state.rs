@@ -6,7 +6,7 @@ use core::fmt;
 /// Where a run stands between two calls: the current line, the bytes of it that are written, the stashes held.
 ///
 /// [`open`](crate::open) gives the first one, and each [`call`](crate::call) leaves the next one in its place. Every state is safe to call
-/// with: one that is impossible with the list and the areas is refused (17).
+/// with: one that is impossible with the list, the areas and the patch data is refused (17).
 #[derive(Clone, PartialEq, Eq)]
 pub struct State {
     pub(crate) raw: exports::State,

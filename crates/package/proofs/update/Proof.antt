@@ -1,5 +1,7 @@
--- `update` is safe: what is lent on of the buffers of list and patch data are the bytes that were read. Assumes nothing.
+-- `update` is safe: what is lent on of the buffers of list and patch data are bytes that were read. Assumes nothing.
 use mathlib.Core.Path.{subst}
+use native.Mathlib.Omega.{arith}
+use lib.ListN.{length-take}
 use Rattle.io.specs.Counts.{Counts}
 use Rattle.package.specs.Fills.{Fills}
 use borrow.Author.Needs.{needs}
@@ -13,6 +15,13 @@ list-read c = subst (Fills _) (c .n .given .1) (c .before .before .before .read-
 -- so does what was read of the patch data
 patch-read : (c : tie.After-p) → Counts (c .p .given .0 .0) (c .before .before .before .read-file2 .last .1 .0)
 patch-read c = subst (Fills _) (c .p .given .1) (c .before .before .before .read-file2 .ensures)
+
+-- and what is lent of it
+lent-within : (c : tie.After-lent-patch) → Counts (c .lent-patch .result) (c .before .before .before .before .before .read-file2 .last .1 .0)
+lent-within c =
+    let r = patch-read (c .before .before) in
+    let e = c .lent-patch .ensures in
+    (omega arith, simp length-take (omega arith))
 
 abbrev earlier : tie.After-p → tie.After-n
 earlier c = c .before .before .before .before .before .before
@@ -35,6 +44,7 @@ update-spec =
     (λ c. search needs)
     (λ c κs. search needs)
     (λ c κs. search needs)
+    (λ c κs. search needs)
     (λ c. search needs)
     (λ c. search needs)
     (λ c. search needs)
@@ -44,10 +54,10 @@ update-spec =
     (λ c. search needs)
     (λ c κs. search needs)
     (λ c. search needs)
-    (λ c. list-read (earlier (c .before .before .before .before .before .before .before .before .before .before .before)) .0)
-    (λ c. list-read (earlier (c .before .before .before .before .before .before .before .before .before .before .before .before)) .1)
-    (λ c. patch-read (c .before .before .before .before .before .before .before .before .before .before .before .before) .0)
-    (λ c. patch-read (c .before .before .before .before .before .before .before .before .before .before .before .before .before) .1)
+    (λ c. list-read (earlier (c .before .before .before .before .before .before .before .before .before .before .before .before)) .0)
+    (λ c. list-read (earlier (c .before .before .before .before .before .before .before .before .before .before .before .before .before)) .1)
+    (λ c. lent-within (c .before .before .before .before .before .before .before .before .before .before .before) .0)
+    (λ c. lent-within (c .before .before .before .before .before .before .before .before .before .before .before .before) .1)
     (λ c κs. search needs)
     (λ c κs. search needs)
     (λ c κs. search needs)

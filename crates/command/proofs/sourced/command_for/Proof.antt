@@ -10,4 +10,4 @@ command-for-spec =
     (λ c. search needs)
     (λ c. search needs)
     (λ c. rw (c .enum-told .given .1))
-    (λ c. rw (c .before .purpose .given .1)))
+    (λ c. rw (c .enum-told2 .given .1)))

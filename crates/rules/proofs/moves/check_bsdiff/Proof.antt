@@ -9,27 +9,27 @@ use Rattle.state.specs.Refusals.{none, pastPatch}
 use Rattle.state.specs.Stashes.{Stash}
 use Rattle.ranges.specs.declared.RangeSet.{RangeSet}
 use Rattle.command.specs.declared.source.Source.{Source}
-use Rattle.command.specs.declared.sourced.Patching.{Patching}
+use Rattle.command.specs.Patching.{patchingOf}
+use Rattle.command.specs.declared.patching.Patching.{Patching}
 use Rattle.rules.specs.declared.Terms.{Terms}
 use Rattle.rules.specs.Move.{sourcedRefusal, overResult, patchPast, bsdiffRefusal}
 use Rattle.rules.proofs.moves.check_bsdiff.Statement.{statement}
 use Rattle.rules.proofs.moves.check_bsdiff.Tie as tie
 
-module _ (l : List ℕ) (terms : Terms) (held : List Stash) (patching : Patching) (target : RangeSet) (n : ℕ) (source : Source) {number : ℕ}
+module _ (l : List ℕ) (terms : Terms) (held : List Stash) (target : RangeSet) (n : ℕ) (source : Source) {number : ℕ}
     (is : number ≡ sourcedRefusal l terms held (overResult terms target) false target n source) where
-  refused-before : (number ≡ none → ⊥) → number ≡ bsdiffRefusal l terms held patching target n source
+  refused-before : (number ≡ none → ⊥) → number ≡ bsdiffRefusal l terms held target n source
   unfolding bsdiffRefusal
   refused-before d = rw (← is, ne-eqb number none d)
 
-  refused-last : number ≡ none → {past : Bool} → past ≡ patchPast terms patching → past ≡ true →
-      pastPatch ≡ bsdiffRefusal l terms held patching target n source
-  unfolding bsdiffRefusal
-  refused-last e p t = rw (← is, eq-eqb number none e, ← p, t)
+  module _ (e : number ≡ none) {patching : Patching} (read : patching ≡ patchingOf l) {past : Bool} (p : past ≡ patchPast terms patching) where
+    refused-last : past ≡ true → pastPatch ≡ bsdiffRefusal l terms held target n source
+    unfolding bsdiffRefusal
+    refused-last t = rw (← is, eq-eqb number none e, ← read, ← p, t)
 
-  refused-nowhere : number ≡ none → {past : Bool} → past ≡ patchPast terms patching → past ≡ false →
-      none ≡ bsdiffRefusal l terms held patching target n source
-  unfolding bsdiffRefusal
-  refused-nowhere e p t = rw (← is, eq-eqb number none e, ← p, t)
+    refused-nowhere : past ≡ false → none ≡ bsdiffRefusal l terms held target n source
+    unfolding bsdiffRefusal
+    refused-nowhere t = rw (← is, eq-eqb number none e, ← read, ← p, t)
 
 pub check-bsdiff-spec : {M : Type 1} → statement M
 check-bsdiff-spec =
@@ -37,6 +37,7 @@ check-bsdiff-spec =
     (tie.spec
     (λ c κs. search needs)
     (λ c. search refused-before)
+    (λ c κs. search needs)
     (λ c κs. search needs)
     (λ c. search refused-last)
     (λ c. search refused-nowhere))

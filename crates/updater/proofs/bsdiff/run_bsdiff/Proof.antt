@@ -28,24 +28,23 @@ returns c =
     let a = s .args in
     bsdiff-differs (a .l .now) (stashes s) (a .hash) (areas s) (a .target) (a .n) (a .source)
     (h .before .before .before .before .put-together .ensures)
-    (a .patching)
     (sym (h .has-hash .ensures) ∙ not-true _ (c .if1 .taken))
 
 patch-source-requires : tie.Need-patch-source-requires
 patch-source-requires c κs =
-    let h = c .before .before .before .before in
-    patch-over (start h .pre .1 .patched) (h .before .before .before .before .put-together .kept .1 .1 .0)
+    let h = c .before .before .before .before .before in
+    rw (c .before .before .before .read-patching .ensures) (patch-over (start h .pre .1 .patched) (h .before .before .before .before .put-together .kept .1 .1 .0))
 
 returns-2 : tie.Need-returns-2
 returns-2 c =
-    let e = c .before .before .before .before .before .before .before .before in
+    let e = c .before .before .before .before .before .before .before .before .before in
     let h = e .before in
     let s = start h in
     let a = s .args in
     bsdiff-goes (a .l .now) (stashes s) (a .hash) (areas s) (a .target) (a .n) (a .source)
     (h .before .before .before .before .put-together .ensures)
-    (a .patching)
     (sym (h .has-hash .ensures) ∙ not-false _ (e .if1 .left))
+    (c .before .before .before .before .before .before .before .before .read-patching .ensures)
     (c .before .before .before .before .patch-source .ensures (a .stash .now))
 
 pub run-bsdiff-spec : {M : Type 1} → statement M
@@ -57,6 +56,7 @@ run-bsdiff-spec =
     (λ c. search needs)
     (λ c. search needs)
     returns
+    (λ c κs. search needs)
     patch-source-requires
     (λ c. search needs)
     (λ c. search needs)

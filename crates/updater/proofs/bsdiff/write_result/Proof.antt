@@ -5,8 +5,7 @@ use native.Mathlib.Omega.{arith}
 use lib.ListN.{length, length-take}
 use borrow.Author.Needs.{needs}
 use borrow.Author.Tests.{not-true, not-false}
-use Rattle.text.specs.Hash.{hashAt}
-use Rattle.text.specs.declared.hash.Hash.{Hash}
+use Rattle.command.specs.Patching.{resultHash}
 use Rattle.updater.specs.Areas.{areasOf}
 use Rattle.updater.specs.Source.{hashesTo}
 use Rattle.updater.proofs.EffectLaws.{result-done, result-differs}
@@ -14,15 +13,15 @@ use Rattle.updater.proofs.bsdiff.write_result.Statement.{statement}
 use Rattle.updater.proofs.bsdiff.write_result.Tie as tie
 
 abbrev start : tie.After-has-hash → tie.Start
-start c = c .before .before .before .before .before .before
+start c = c .before .before .before .before .before
 
 -- the digest of the result is T
 same-is : (c : tie.After-has-hash) →
     let a = start c .args in
-    c .has-hash .result ≡ hashesTo (a .result .now) (a .target .blocks) (hashAt (a .l .now) (a .patching .digest) .bytes)
+    c .has-hash .result ≡ hashesTo (a .result .now) (a .target .blocks) (resultHash (a .l .now) (a .patching .hashes))
 same-is c =
     let a = start c .args in
-    c .has-hash .ensures ∙ ap (λ (t : Hash). hashesTo (a .result .now) (a .target .blocks) (t .bytes)) (c .before .before .read-hash .ensures)
+    c .has-hash .ensures ∙ ap (hashesTo (a .result .now) (a .target .blocks)) (c .before .read-result-hash .ensures)
 
 returns : tie.Need-returns
 returns c stash work patch =

@@ -1,6 +1,6 @@
 // Runs the lists that standard input describes, and prints what each call leaves: the outcome, the bytes taken, the image, the stash area,
-// the work area and the result area. An area is printed as a letter for each block that is filled with it, 0 for zeros, and for any other block the first
-// digits of its SHA-1 in brackets. A line of input is one of these; any other, as a comment, is passed over:
+// the work area and the result area. An area is printed as a letter for each block that is filled with it, 0 for zeros, and for any other
+// block the first digits of its SHA-1 in brackets. A line of input is one of these; any other, as a comment, is passed over:
 //   case LABEL                         a new list, an image ABCDEFGH, every area 000, no patch data
 //   image LETTERS [BYTES]              another image, a letter for a block, or only the first BYTES of it; so too `stash`, `work`, `result`
 //   record ADD EXTRA SEEK              more patch data: a record's mark and its control triple, each number as its 64 bits

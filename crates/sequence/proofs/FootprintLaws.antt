@@ -1,5 +1,6 @@
 -- The lines of a list that was opened change, of the image, only the blocks of their targets, of the work area only the blocks of their
--- sources, of the result area only those of their results, and of the stash area only line 4's blocks: a step without a byte, a byte of new data, and any number of them.
+-- sources, of the result area only those of their results, and of the stash area only line 4's blocks: a step without a byte, a byte of new
+-- data, and any number of them.
 -- Assumes nothing.
 use mathlib.Core.Path.{_≡_, refl, subst, _∙_}
 use mathlib.Core.Bool.{true, false}

@@ -1,5 +1,5 @@
--- Document 01, "The list text", "Putting a source together" and "The stash area", and document 02, R-4: which blocks of the lent areas the lines of a text may
--- change, and which blocks of the image a command reads. Demand: of the image only a command's target blocks change.
+-- Document 01, "The list text", "Putting a source together" and "The stash area", and document 02, R-4: which blocks of the lent areas the
+-- lines of a text may change, and which blocks of the image a command reads. Demand: of the image only a command's target blocks change.
 -- Assumes nothing: these are definitions.
 use mathlib.Core.Path.{_≡_}
 use mathlib.Core.Bool.{true, false}

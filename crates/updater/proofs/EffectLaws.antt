@@ -320,7 +320,11 @@ module _ (l : List ℕ) (xs : List Stash) (hash : List ℕ) (a : Areas) where
 
 -- a number that a command stops with is one
 pub in-run-some : {number : ℕ} → InRun number → number ≡ none → ⊥
-in-run-some s e = ⊎-elim (λ h. let z : _≡_ {A = ℕ} hashDiffers none = sym h ∙ e in omega arith) (λ h. let z : _≡_ {A = ℕ} patchMalformed none = sym h ∙ e in omega arith) s
+in-run-some s e =
+    ⊎-elim
+    (λ h. let z : _≡_ {A = ℕ} hashDiffers none = sym h ∙ e in omega arith)
+    (λ h. let z : _≡_ {A = ℕ} patchMalformed none = sym h ∙ e in omega arith)
+    s
 
 abbrev Stops : Effect → Type 0
 Stops e = (e .refusal ≡ none) ⊎ InRun (e .refusal)

@@ -38,7 +38,8 @@ spread l held stash (p ∷ ps) work =
 unfoldable pub supplied : List ℕ → List ℕ → ℕ → ℕ → List ℕ → List ℕ
 supplied l image at n work = written (span 0 n) (gathered (blocksAt l at) image) work
 
--- the source of a `move` or of a `bsdiff`, put together in the work area: form one; the stashes alone; the blocks of S over L's places, then the stashes
+-- the source of a `move` or of a `bsdiff`, put together in the work area: form one; the stashes alone; the blocks of S over L's places, then
+-- the stashes
 unfoldable pub together : List ℕ → List ℕ → List ℕ → List Stash → Source → List ℕ → List ℕ
 together l image stash held (Blocks set) work = supplied l image (set .at) (set .blocks) work
 together l image stash held (Stashes first) work = spread l held stash (usesAt l first) work

@@ -36,9 +36,9 @@ pieceBytes = 4096
 abbrev pub mostPatch : ℕ
 mostPatch = 4096
 
--- as many of its bytes are lent
-abbrev pub lentPatch : ℕ → ℕ
-lentPatch bytes = min bytes mostPatch
+-- the bytes of patch data that a file of that length gives
+abbrev pub patchLength : ℕ → ℕ
+patchLength bytes = min bytes mostPatch
 
 -- whole blocks, at most 8
 abbrev pub isImage : ℕ → Bool

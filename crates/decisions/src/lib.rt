@@ -1,6 +1,6 @@
 // What is decided about the files of an update.
 ghost use mathlib.Core.Path.{_≡_};
-ghost use Rattle.decisions.specs.Program.{isImage, sizeRefusal, lentPatch, openedWith, callsOn};
+ghost use Rattle.decisions.specs.Program.{isImage, sizeRefusal, patchLength, openedWith, callsOn};
 use state::Refusal;
 use state::State;
 use state::limits::BLOCK_BYTES;
@@ -52,9 +52,9 @@ pub fn size_refusal(list: usize, image: usize) -> Refusal
     Refusal { number: 0, line: 0 }
 }
 
-// As much of a patch file of that length as is lent.
-pub fn lent_patch(bytes: usize) -> usize
-    ensures { λ r. ⌜ r ≡ lentPatch bytes ⌝ }
+// The bytes of patch data that a patch file of that length gives.
+pub fn patch_length(bytes: usize) -> usize
+    ensures { λ r. ⌜ r ≡ patchLength bytes ⌝ }
 {
     if bytes < PATCH_BYTES {
         return bytes;

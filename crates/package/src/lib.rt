@@ -19,8 +19,8 @@ use decisions::LIST_BYTES;
 use decisions::PATCH_BYTES;
 use decisions::answer::answer_line;
 use decisions::calls_on;
-use decisions::lent_patch;
 use decisions::open_list;
+use decisions::patch_length;
 use decisions::size_refusal;
 use libc::STDOUT_FILENO;
 use state::Refusal;
@@ -172,7 +172,7 @@ pub fn update(
     let Loaded::Bytes(p) = read_file(patch_path, &mut patch) else {
         return;
     };
-    let lent = lent_patch(p);
+    let length = patch_length(p);
     let Opened::At(image) = check_opened(os::open_update(image_path), image_path) else {
         return;
     };
@@ -182,7 +182,7 @@ pub fn update(
     };
     update_opened(
         &list[..n],
-        &patch[..lent],
+        &patch[..length],
         image,
         image_path,
         data,

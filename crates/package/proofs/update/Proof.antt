@@ -16,11 +16,11 @@ list-read c = subst (Fills _) (c .n .given .1) (c .before .before .before .read-
 patch-read : (c : tie.After-p) → Counts (c .p .given .0 .0) (c .before .before .before .read-file2 .last .1 .0)
 patch-read c = subst (Fills _) (c .p .given .1) (c .before .before .before .read-file2 .ensures)
 
--- and what is lent of it
-lent-within : (c : tie.After-lent-patch) → Counts (c .lent-patch .result) (c .before .before .before .before .before .read-file2 .last .1 .0)
-lent-within c =
+-- and what is used of it
+used-within : (c : tie.After-patch-length) → Counts (c .patch-length .result) (c .before .before .before .before .before .read-file2 .last .1 .0)
+used-within c =
     let r = patch-read (c .before .before) in
-    let e = c .lent-patch .ensures in
+    let e = c .patch-length .ensures in
     (omega arith, simp length-take (omega arith))
 
 abbrev earlier : tie.After-p → tie.After-n
@@ -56,8 +56,8 @@ update-spec =
     (λ c. search needs)
     (λ c. list-read (earlier (c .before .before .before .before .before .before .before .before .before .before .before .before)) .0)
     (λ c. list-read (earlier (c .before .before .before .before .before .before .before .before .before .before .before .before .before)) .1)
-    (λ c. lent-within (c .before .before .before .before .before .before .before .before .before .before .before) .0)
-    (λ c. lent-within (c .before .before .before .before .before .before .before .before .before .before .before .before) .1)
+    (λ c. used-within (c .before .before .before .before .before .before .before .before .before .before .before) .0)
+    (λ c. used-within (c .before .before .before .before .before .before .before .before .before .before .before .before) .1)
     (λ c κs. search needs)
     (λ c κs. search needs)
     (λ c κs. search needs)

@@ -1,9 +1,12 @@
 -- What the exported functions answer: document 01's outcomes as numbers.
 -- Assumes nothing: these are definitions.
 use Prim.Native.Nat.{ℕ}
+use mathlib.Core.List.{List}
+use Rattle.state.specs.States.{stateWith}
+use Rattle.state.specs.declared.Progress.{Progress}
+use Rattle.state.specs.declared.State.{State}
 use Rattle.updater.specs.Areas.{Areas}
 use Rattle.updater.specs.Calls.{Result}
-use Rattle.updater.specs.declared.Called.{Called}
 use Rattle.updater.specs.declared.Outcome.{Outcome}
 use Rattle.updater.specs.declared.Outcome.the-variants.{Done, More, Refused}
 use Rattle.muongrabi.specs.declared.Answer.{Answer}
@@ -26,24 +29,45 @@ refusalLine Done = 0
 refusalLine More = 0
 refusalLine (Refused refusal) = refusal .line
 
-abbrev pub answerOf : Called → Answer
-answerOf called =
+abbrev pub answerOf : Progress → Outcome → ℕ → Answer
+answerOf progress outcome taken =
     record {
-      state = called .state;
-      outcome = outcomeNumber (called .outcome);
-      number = refusalNumber (called .outcome);
-      line = refusalLine (called .outcome);
-      taken = called .taken;
+      progress = progress;
+      outcome = outcomeNumber outcome;
+      number = refusalNumber outcome;
+      line = refusalLine outcome;
+      taken = taken;
     }
 
--- what a caller has after a call: the areas and the answer
+-- what a caller has after a call: the areas, the state and the numbers
 pub record Answered : Type 0 where
   pub areas : Areas
-  pub answer : Answer
+  pub state : State
+  pub outcome : ℕ
+  pub number : ℕ
+  pub line : ℕ
+  pub taken : ℕ
 
-abbrev pub answeredOf : Areas → Answer → Answered
-answeredOf areas answer = record { areas = areas; answer = answer }
+-- with the tables of hashes and of sizes as the call left them
+abbrev pub answeredOf : Areas → List ℕ → List ℕ → Answer → Answered
+answeredOf areas hashes sizes answer =
+    record {
+      areas = areas;
+      state = stateWith hashes sizes (answer .progress);
+      outcome = answer .outcome;
+      number = answer .number;
+      line = answer .line;
+      taken = answer .taken;
+    }
 
 -- the same for the result of a call, or of an opening and its calls
 abbrev pub answered : Result → Answered
-answered r = answeredOf (r .areas) (answerOf (r .called))
+answered r =
+    record {
+      areas = r .areas;
+      state = r .called .state;
+      outcome = outcomeNumber (r .called .outcome);
+      number = refusalNumber (r .called .outcome);
+      line = refusalLine (r .called .outcome);
+      taken = r .called .taken;
+    }

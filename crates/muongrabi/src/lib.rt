@@ -2,6 +2,7 @@
 ghost use mathlib.Core.Path.{_≡_};
 ghost use lib.ListN.{length};
 ghost use Rattle.sha1.specs.Sha1.{sha1};
+ghost use Rattle.state.specs.States.{stateWith};
 ghost use Rattle.transfer_list.specs.Opening.{lengthsOf, openState};
 ghost use Rattle.updater.specs.Areas.{areasOf};
 ghost use Rattle.updater.specs.Calls.{callOf};
@@ -10,55 +11,57 @@ ghost use Rattle.sequence.specs.Cuts.{runCuts};
 ghost use Rattle.sparse.specs.Loading.{loadRefusal, loadedImage};
 ghost use Rattle.muongrabi.specs.Answers.{answerOf, answeredOf, answered};
 ghost use Rattle.muongrabi.specs.Abi.{abi};
+use sequence::run_pieces;
+use state::Progress;
 use state::State;
-use updater::Called;
+use state::limits::MOST_STASHES;
+use state::limits::TABLE_BYTES;
 use updater::Outcome;
+use updater::call_in_place;
 
-const ABI: usize = 2;
+const ABI: usize = 3;
 
-// An outcome as numbers: 0 done, 1 more, 2 refused with a number and a line.
+// What a call answers besides the tables of the stashes. An outcome is a number: 0 done, 1 more, 2 refused with a number and a line.
 #[repr(C)]
 pub struct Answer {
-    pub state: State,
+    pub progress: Progress,
     pub outcome: usize,
     pub number: usize,
     pub line: usize,
     pub taken: usize,
 }
 
-fn to_answer(called: Called) -> Answer
-    ensures { λ r. ⌜ r ≡ answerOf called ⌝ }
+fn to_answer(progress: Progress, outcome: Outcome, taken: usize) -> Answer
+    ensures { λ r. ⌜ r ≡ answerOf progress outcome taken ⌝ }
 {
-    let state = called.state;
-    let outcome = called.outcome;
     match outcome {
         Outcome::Done => Answer {
-            state,
+            progress,
             outcome: 0,
             number: 0,
             line: 0,
-            taken: called.taken,
+            taken,
         },
         Outcome::More => Answer {
-            state,
+            progress,
             outcome: 1,
             number: 0,
             line: 0,
-            taken: called.taken,
+            taken,
         },
         Outcome::Refused(refusal) => Answer {
-            state,
+            progress,
             outcome: 2,
             number: refusal.number,
             line: refusal.line,
-            taken: called.taken,
+            taken,
         },
     }
 }
 
 // The ABI's number. The name has it too, so that what was built for another one does not link.
 #[no_mangle]
-pub extern "C" fn muongrabi_abi_2() -> usize
+pub extern "C" fn muongrabi_abi_3() -> usize
     ensures { λ r. ⌜ r ≡ abi ⌝ }
 {
     ABI
@@ -87,7 +90,7 @@ pub extern "C" fn muongrabi_open(
     transfer_list::open(list, image, stash, work, result, patch)
 }
 
-// One call with one piece of new data.
+// One call with one piece of new data. The tables of the stashes are lent with the rest of the state, and are then the state's after it.
 #[no_mangle]
 pub extern "C" fn muongrabi_call(
     list: &[u8],
@@ -97,14 +100,31 @@ pub extern "C" fn muongrabi_call(
     result: &mut [u8],
     patch: &[u8],
     piece: &[u8],
-    state: State,
+    hashes: &mut [u8; TABLE_BYTES],
+    sizes: &mut [usize; MOST_STASHES],
+    progress: Progress,
 ) -> Answer
-    ensures { λ r. ⌜ answeredOf (areasOf (now (image .exit)) (now (stash .exit)) (now (work .exit)) (now (result .exit)) (now (patch .entry))) r ≡ answered (callOf (now (list .entry)) (now (piece .entry)) (configOf (areasOf (now (image .entry)) (now (stash .entry)) (now (work .entry)) (now (result .entry)) (now (patch .entry))) state)) ⌝ }
+    ensures { λ r. ⌜ answeredOf (areasOf (now (image .exit)) (now (stash .exit)) (now (work .exit)) (now (result .exit)) (now (patch .entry))) (now (hashes .exit)) (now (sizes .exit)) r ≡ answered (callOf (now (list .entry)) (now (piece .entry)) (configOf (areasOf (now (image .entry)) (now (stash .entry)) (now (work .entry)) (now (result .entry)) (now (patch .entry))) (stateWith (now (hashes .entry)) (now (sizes .entry)) progress))) ⌝ }
 {
-    to_answer(updater::call(list, image, stash, work, result, patch, piece, state))
+    let called = call_in_place(
+        list,
+        image,
+        stash,
+        work,
+        result,
+        patch,
+        piece,
+        hashes,
+        sizes,
+        progress,
+    );
+    let last = called.progress;
+    let outcome = called.outcome;
+    to_answer(last, outcome, called.taken)
 }
 
-// Opens the list and makes the calls: a piece of each given length, cut short where the bytes end, and then one with what is left.
+// Opens the list and makes the calls: a piece of each given length, cut short where the bytes end, and then one with what is left. The
+// tables are those of the state after the last call, whatever they held.
 #[no_mangle]
 pub extern "C" fn muongrabi_run(
     list: &[u8],
@@ -115,10 +135,32 @@ pub extern "C" fn muongrabi_run(
     patch: &[u8],
     bytes: &[u8],
     cuts: &[usize],
+    hashes: &mut [u8; TABLE_BYTES],
+    sizes: &mut [usize; MOST_STASHES],
 ) -> Answer
-    ensures { λ r. ⌜ answeredOf (areasOf (now (image .exit)) (now (stash .exit)) (now (work .exit)) (now (result .exit)) (now (patch .entry))) r ≡ answered (runCuts (now (list .entry)) (areasOf (now (image .entry)) (now (stash .entry)) (now (work .entry)) (now (result .entry)) (now (patch .entry))) (now (bytes .entry)) (now (cuts .entry))) ⌝ }
+    ensures { λ r. ⌜ answeredOf (areasOf (now (image .exit)) (now (stash .exit)) (now (work .exit)) (now (result .exit)) (now (patch .entry))) (now (hashes .exit)) (now (sizes .exit)) r ≡ answered (runCuts (now (list .entry)) (areasOf (now (image .entry)) (now (stash .entry)) (now (work .entry)) (now (result .entry)) (now (patch .entry))) (now (bytes .entry)) (now (cuts .entry))) ⌝ }
 {
-    to_answer(sequence::run_pieces(list, image, stash, work, result, patch, bytes, cuts))
+    let called = run_pieces(list, image, stash, work, result, patch, bytes, cuts);
+    let state = called.state;
+    let outcome = called.outcome;
+    let refusal = state.refusal;
+    let lengths = state.lengths;
+    let last_hashes = state.hashes;
+    let last_sizes = state.sizes;
+    *hashes = last_hashes;
+    *sizes = last_sizes;
+    to_answer(
+        Progress {
+            count: state.count,
+            line: state.line,
+            at: state.at,
+            into: state.into,
+            refusal,
+            lengths,
+        },
+        outcome,
+        called.taken,
+    )
 }
 
 // Reads a sparse file over an image, and gives the number of the refusal, 0 for none.

@@ -1,6 +1,7 @@
 // States that a list can have with its areas and its patch data.
 ghost use mathlib.Core.Path.{_≡_};
 ghost use Prim.Native.Nat.{_-_};
+ghost use Rattle.state.specs.States.{stateWith};
 ghost use Rattle.state.specs.Stashes.{tableAt};
 ghost use Rattle.possible.specs.Possible.{sameLengths, atLine, canHold, hasMore, canBeInto, isPossible, termsFor};
 use command::Command;
@@ -9,7 +10,7 @@ use command::targets::NewTarget;
 use command::targets::new_target;
 use rules::Terms;
 use state::Lengths;
-use state::State;
+use state::Progress;
 use state::limits::BLOCK_BYTES;
 use state::limits::MOST_STASHES;
 use state::limits::TABLE_BYTES;
@@ -115,10 +116,16 @@ fn can_be_into(list: &[u8], terms: Terms, at: usize, into: usize) -> bool
 }
 
 // The state is one that this list can have with areas and patch data of these lengths.
-pub fn is_possible(list: &[u8], lengths: Lengths, s: State) -> bool
-    ensures { λ r. ⌜ r ≡ isPossible (now (list .entry)) lengths s ⌝ }
+pub fn is_possible<'a>(
+    list: &[u8],
+    lengths: Lengths,
+    hashes: &'a [u8; TABLE_BYTES],
+    sizes: &'a [usize; MOST_STASHES],
+    progress: Progress,
+) -> bool
+    ensures { λ r. ⌜ r ≡ isPossible (now (list .entry)) lengths (stateWith (now (hashes .entry)) (now (sizes .entry)) progress) ⌝ }
 {
-    let opened = s.lengths;
+    let opened = progress.lengths;
     if !same_lengths(opened, lengths) {
         return false;
     }
@@ -129,13 +136,13 @@ pub fn is_possible(list: &[u8], lengths: Lengths, s: State) -> bool
     match read_header(list) {
         HeaderRead::Bad(_) => false,
         HeaderRead::Good(h) => {
-            if !is_at_line(list, h, s.line, s.at) {
+            if !is_at_line(list, h, progress.line, progress.at) {
                 return false;
             }
-            if !can_hold(h, &s.hashes, &s.sizes, s.count) {
+            if !can_hold(h, hashes, sizes, progress.count) {
                 return false;
             }
-            can_be_into(list, terms_of(lengths, h), s.at, s.into)
+            can_be_into(list, terms_of(lengths, h), progress.at, progress.into)
         }
     }
 }

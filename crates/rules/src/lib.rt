@@ -10,6 +10,7 @@ use crate::moves::work_blocks;
 use command::Command;
 use command::Line;
 use command::read_command;
+use marks::MARK_BYTES;
 use ranges::RangeSet;
 use state::limits::HASH_BYTES;
 use state::limits::MOST_STASHES;
@@ -107,6 +108,7 @@ fn check_command<'a>(
     hashes: &'a [u8; TABLE_BYTES],
     sizes: &'a [usize; MOST_STASHES],
     count: usize,
+    marks: &mut [u8; MARK_BYTES],
     line: Line,
 ) -> usize
     ensures { λ r. ⌜ r ≡
@@ -128,6 +130,7 @@ fn check_command<'a>(
             hashes,
             sizes,
             count,
+            marks,
             target,
             length as usize,
             source,
@@ -142,6 +145,7 @@ fn check_command<'a>(
             hashes,
             sizes,
             count,
+            marks,
             target,
             length as usize,
             source,
@@ -153,17 +157,19 @@ fn check_command<'a>(
     }
 }
 
-// A line that is handed over as its part of the text, checked against the table of the stashes held.
+// A line that is handed over as its part of the text, checked against the table of the stashes held. The marks are room to check places in:
+// what they hold before and after is free, and no answer depends on it.
 pub fn check_line<'a>(
     l: &[u8],
     terms: Terms,
     hashes: &'a [u8; TABLE_BYTES],
     sizes: &'a [usize; MOST_STASHES],
     count: usize,
+    marks: &mut [u8; MARK_BYTES],
 ) -> Checked
     ensures { λ r. ⌜ r ≡ checkedOf (now (l .entry)) terms (heldIn (tableAt (now (hashes .entry)) (now (sizes .entry)) count)) ⌝ }
 {
     let line = read_command(l);
-    let refusal = check_command(l, terms, hashes, sizes, count, line);
+    let refusal = check_command(l, terms, hashes, sizes, count, marks, line);
     Checked { line, refusal }
 }

@@ -14,6 +14,7 @@ use command::parts::read_part;
 use command::patching::Patching;
 use command::patching::read_patching;
 use command::source::Source;
+use marks::MARK_BYTES;
 use ranges::RangeSet;
 use state::limits::HASH_BYTES;
 use state::limits::MOST_AREA_BLOCKS;
@@ -216,6 +217,7 @@ fn check_sourced<'a>(
     hashes: &'a [u8; TABLE_BYTES],
     sizes: &'a [usize; MOST_STASHES],
     count: usize,
+    marks: &mut [u8; MARK_BYTES],
     over: bool,
     differs: bool,
     target: RangeSet,
@@ -251,7 +253,7 @@ fn check_sourced<'a>(
     if source_differs(n, source, sums) {
         return SIZES_DIFFER;
     }
-    if places_fit(l, n, source) {
+    if places_fit(l, n, source, marks) {
         return 0;
     }
     MISPLACED
@@ -264,6 +266,7 @@ pub(crate) fn check_move<'a>(
     hashes: &'a [u8; TABLE_BYTES],
     sizes: &'a [usize; MOST_STASHES],
     count: usize,
+    marks: &mut [u8; MARK_BYTES],
     target: RangeSet,
     n: usize,
     source: Source,
@@ -279,6 +282,7 @@ pub(crate) fn check_move<'a>(
         hashes,
         sizes,
         count,
+        marks,
         false,
         differs,
         target,
@@ -301,6 +305,7 @@ pub(crate) fn check_bsdiff<'a>(
     hashes: &'a [u8; TABLE_BYTES],
     sizes: &'a [usize; MOST_STASHES],
     count: usize,
+    marks: &mut [u8; MARK_BYTES],
     target: RangeSet,
     n: usize,
     source: Source,
@@ -316,6 +321,7 @@ pub(crate) fn check_bsdiff<'a>(
         hashes,
         sizes,
         count,
+        marks,
         over,
         false,
         target,

@@ -1,4 +1,5 @@
-// The places of a put-together source, each marked as it is taken.
+// The places of a put-together source, each marked as it is taken. The marks are room that a caller has, so that they are cleared only as
+// far as N.
 ghost use mathlib.Core.Path.{_≡_};
 ghost use Prim.Native.Nat.{_≤_};
 ghost use Rattle.text.specs.Choice.{no};
@@ -10,15 +11,16 @@ ghost use Rattle.rules.specs.Taken.{Takes};
 use command::parts::PartRead;
 use command::parts::read_part;
 use command::source::Source;
+use marks::MARK_BYTES;
+use marks::clear_marks;
+use marks::take_place;
 use ranges::walk::Step;
 use ranges::walk::next_block;
 use ranges::walk::walk_from;
-use state::limits::MOST_AREA_BLOCKS;
 
 // Takes the places of the set at a position; false where one is at n or above, or taken already.
-fn take_places(l: &[u8], at: usize, n: usize, taken: &mut [u8; MOST_AREA_BLOCKS]) -> bool
-    requires { ⌜ n ≤ mostAreaBlocks ⌝ }
-    ensures { λ r. ⌜ Takes mostAreaBlocks n (now (taken .entry)) (now (taken .exit)) (blocksAt (now (l .entry)) at) r ⌝ }
+fn take_places(l: &[u8], at: usize, n: usize, marks: &mut [u8; MARK_BYTES]) -> bool
+    ensures { λ r. ⌜ Takes n (now (marks .entry)) (now (marks .exit)) (blocksAt (now (l .entry)) at) r ⌝ }
 {
     let mut w = walk_from(l, at);
     loop {
@@ -31,10 +33,9 @@ fn take_places(l: &[u8], at: usize, n: usize, taken: &mut [u8; MOST_AREA_BLOCKS]
                 if n <= p {
                     return false;
                 }
-                if taken[p] != 0 {
+                if !take_place(marks, p) {
                     return false;
                 }
-                taken[p] = 1;
                 w = rest;
             }
         }
@@ -42,10 +43,8 @@ fn take_places(l: &[u8], at: usize, n: usize, taken: &mut [u8; MOST_AREA_BLOCKS]
 }
 
 // Takes the places of every stash named from a position on.
-fn take_uses(l: &[u8], first: usize, n: usize, taken: &mut [u8; MOST_AREA_BLOCKS]) -> bool
-    requires { ⌜ n ≤ mostAreaBlocks ⌝ }
-    ensures { λ r. ⌜ Takes mostAreaBlocks n (now (taken .entry)) (now (taken .exit))
-        (placesOf (now (l .entry)) (usesAt (now (l .entry)) first)) r ⌝ }
+fn take_uses(l: &[u8], first: usize, n: usize, marks: &mut [u8; MARK_BYTES]) -> bool
+    ensures { λ r. ⌜ Takes n (now (marks .entry)) (now (marks .exit)) (placesOf (now (l .entry)) (usesAt (now (l .entry)) first)) r ⌝ }
 {
     let mut at = first;
     loop {
@@ -56,10 +55,10 @@ fn take_uses(l: &[u8], first: usize, n: usize, taken: &mut [u8; MOST_AREA_BLOCKS
                 return true;
             }
             PartRead::Last(places, _) => {
-                return take_places(l, places.at, n, taken);
+                return take_places(l, places.at, n, marks);
             }
             PartRead::More(places, next) => {
-                if !take_places(l, places.at, n, taken) {
+                if !take_places(l, places.at, n, marks) {
                     return false;
                 }
                 at = next;
@@ -69,26 +68,26 @@ fn take_uses(l: &[u8], first: usize, n: usize, taken: &mut [u8; MOST_AREA_BLOCKS
 }
 
 // No place of the source is at n or above, and none is taken twice.
-pub(crate) fn places_fit(l: &[u8], n: usize, source: Source) -> bool
+pub(crate) fn places_fit(l: &[u8], n: usize, source: Source, marks: &mut [u8; MARK_BYTES]) -> bool
     requires { ⌜ n ≤ mostAreaBlocks ⌝ }
     ensures { λ r. ⌜ r ≡ no (sourceMisplaced (now (l .entry)) n source) ⌝ }
 {
     match source {
         Source::Blocks(_) => true,
         Source::Stashes(first) => {
-            let mut taken = [0u8; MOST_AREA_BLOCKS];
-            take_uses(l, first, n, &mut taken)
+            clear_marks(marks, n);
+            take_uses(l, first, n, marks)
         }
         Source::Both {
             blocks: _,
             places,
             first,
         } => {
-            let mut taken = [0u8; MOST_AREA_BLOCKS];
-            if !take_places(l, places.at, n, &mut taken) {
+            clear_marks(marks, n);
+            if !take_places(l, places.at, n, marks) {
                 return false;
             }
-            take_uses(l, first, n, &mut taken)
+            take_uses(l, first, n, marks)
         }
     }
 }

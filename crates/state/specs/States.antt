@@ -1,9 +1,11 @@
 -- Document 01, "Calls" and "Refusal numbers": the state that is kept between calls, and what of it a step sets.
 -- Assumes nothing: these are definitions.
 use Prim.Native.Nat.{ℕ}
+use mathlib.Core.List.{List}
 use Rattle.state.specs.Refusals.{none}
-use Rattle.state.specs.Stashes.{Table, tableOf, emptyTable}
+use Rattle.state.specs.Stashes.{Table, tableAt, tableOf, emptyTable}
 use Rattle.state.specs.declared.Lengths.{Lengths}
+use Rattle.state.specs.declared.Progress.{Progress}
 use Rattle.state.specs.declared.Refusal.{Refusal}
 use Rattle.state.specs.declared.State.{State}
 
@@ -27,6 +29,11 @@ stateOf t line at into refused lengths =
       refusal = refused;
       lengths = lengths;
     }
+
+-- the tables of hashes and of sizes, and what a state has besides them
+abbrev pub stateWith : List ℕ → List ℕ → Progress → State
+stateWith hashes sizes p =
+    stateOf (tableAt hashes sizes (p .count)) (p .line) (p .at) (p .into) (p .refusal) (p .lengths)
 
 -- at the start of a line, with no stash
 abbrev pub stateAt : ℕ → ℕ → Refusal → Lengths → State

@@ -25,6 +25,17 @@ pub struct Lengths {
     pub patch: usize,
 }
 
+// What a state has besides the tables of its stashes.
+#[repr(C)]
+pub struct Progress {
+    pub count: usize,
+    pub line: usize,
+    pub at: usize,
+    pub into: usize,
+    pub refusal: Refusal,
+    pub lengths: Lengths,
+}
+
 // The stashes held, oldest first, a hash and a number of blocks each, and how many they are. The current line's number and where it
 // starts in the text. The bytes into a `new`. The refusal, if any. The lengths at opening.
 #[repr(C)]

@@ -13,6 +13,7 @@ use crate::header::HeaderRead;
 use crate::header::check_start;
 use crate::header::read_header;
 use command::Command;
+use marks::MARK_BYTES;
 use rules::Terms;
 use rules::check_line;
 use rules::held::hold_after;
@@ -90,13 +91,14 @@ fn check_lines(list: &[u8], terms: Terms, h: Header) -> Refusal
 {
     let mut hashes = [0u8; TABLE_BYTES];
     let mut sizes = [0usize; MOST_STASHES];
+    let mut marks = [0u8; MARK_BYTES];
     let mut count: usize = 0;
     let mut line: usize = FIRST_LINE;
     let mut at = h.first;
     let mut counted: usize = 0;
     while at < list.len() {
         let l = line_at(list, at);
-        let checked = check_line(l, terms, &hashes, &sizes, count);
+        let checked = check_line(l, terms, &hashes, &sizes, count, &mut marks);
         if checked.refusal != 0 {
             return Refusal {
                 number: checked.refusal,

@@ -7,7 +7,7 @@ use lib.ListN.{length}
 use lib.Dec.{leb, eqb}
 use Rattle.text.specs.Choice.{pick, both}
 use Rattle.state.specs.Refusals.{none, stateImpossible}
-use Rattle.state.specs.States.{refusing}
+use Rattle.state.specs.States.{refusing, stateWith}
 use Rattle.state.specs.declared.Lengths.{Lengths}
 use Rattle.state.specs.declared.Refusal.{Refusal}
 use Rattle.state.specs.declared.State.{State}
@@ -19,6 +19,7 @@ use Rattle.updater.specs.Steps.{Config}
 use Rattle.updater.specs.Run.{machine}
 use Rattle.updater.specs.declared.Outcome.{Outcome}
 use Rattle.updater.specs.declared.Outcome.the-variants as outcome
+use Rattle.updater.specs.declared.Advanced.{Advanced}
 use Rattle.updater.specs.declared.Called.{Called}
 
 -- done, more, or refused with number and line
@@ -53,6 +54,10 @@ says s piece p =
     (outcomeOf s (leaves s piece p .state))
     (outcome.Refused (refusing stateImpossible 0)))
     (outcomeOf s (p .state))
+
+-- what a call gave back, with the tables of the stashes as it left them
+abbrev pub calledWith : List ℕ → List ℕ → Advanced → Called
+calledWith hashes sizes a = record { state = stateWith hashes sizes (a .progress); outcome = a .outcome; taken = a .taken }
 
 -- what a caller has after a call: the areas, and what the call gave back
 pub record Result : Type 0 where

@@ -1,5 +1,6 @@
 // The lines of a list, run until the next byte of new data is needed, the list is finished, or something is refused.
 ghost use mathlib.Core.Path.{_≡_};
+ghost use Rattle.state.specs.States.{stateWith};
 ghost use Rattle.updater.specs.Areas.{areasOf};
 ghost use Rattle.updater.specs.Steps.{configOf};
 ghost use Rattle.updater.specs.Run.{reached, runOf};
@@ -8,21 +9,24 @@ use crate::commands::run_command;
 use crate::new_data::take_new;
 use command::targets::NewTarget;
 use command::targets::new_target;
+use marks::MARK_BYTES;
 use rules::Terms;
 use rules::check_line;
 use rules::held::hold_after;
+use state::Progress;
 use state::Refusal;
-use state::State;
 use state::limits::BLOCK_BYTES;
+use state::limits::MOST_STASHES;
+use state::limits::TABLE_BYTES;
 use text::line::line_at;
 
 // Where a run was left, and the bytes it took.
-pub struct Ran {
-    pub state: State,
+pub(crate) struct Ran {
+    pub progress: Progress,
     pub taken: usize,
 }
 
-// The stashes' tables are taken out of the state once, and read and written where they lie.
+// The stashes' tables are read and written where they lie.
 pub(crate) fn run_lines(
     list: &[u8],
     image: &mut [u8],
@@ -32,24 +36,25 @@ pub(crate) fn run_lines(
     patch: &[u8],
     piece: &[u8],
     terms: Terms,
-    state: State,
+    hashes: &mut [u8; TABLE_BYTES],
+    sizes: &mut [usize; MOST_STASHES],
+    progress: Progress,
 ) -> Ran
-    requires { ⌜ Fits (now list) terms (configOf (areasOf (now image) (now stash) (now work) (now result) (now patch)) state) ⌝ }
-    requires { ⌜ state .refusal .number ≡ 0 ⌝ }
-    ensures { λ r. ⌜ reached (configOf (areasOf (now (image .exit)) (now (stash .exit)) (now (work .exit)) (now (result .exit)) (now (patch .entry))) (r .state)) (r .taken) ≡ runOf (now (list .entry)) terms (now (piece .entry)) (configOf (areasOf (now (image .entry)) (now (stash .entry)) (now (work .entry)) (now (result .entry)) (now (patch .entry))) state) ⌝ }
+    requires { ⌜ Fits (now list) terms (configOf (areasOf (now image) (now stash) (now work) (now result) (now patch)) (stateWith (now hashes) (now sizes) progress)) ⌝ }
+    requires { ⌜ progress .refusal .number ≡ 0 ⌝ }
+    ensures { λ r. ⌜ reached (configOf (areasOf (now (image .exit)) (now (stash .exit)) (now (work .exit)) (now (result .exit)) (now (patch .entry))) (stateWith (now (hashes .exit)) (now (sizes .exit)) (r .progress))) (r .taken) ≡ runOf (now (list .entry)) terms (now (piece .entry)) (configOf (areasOf (now (image .entry)) (now (stash .entry)) (now (work .entry)) (now (result .entry)) (now (patch .entry))) (stateWith (now (hashes .entry)) (now (sizes .entry)) progress)) ⌝ }
 {
-    let mut hashes = state.hashes;
-    let mut sizes = state.sizes;
-    let mut count = state.count;
-    let mut line = state.line;
-    let mut at = state.at;
-    let mut into = state.into;
-    let mut refusal = state.refusal;
-    let lengths = state.lengths;
+    let mut marks = [0u8; MARK_BYTES];
+    let mut count = progress.count;
+    let mut line = progress.line;
+    let mut at = progress.at;
+    let mut into = progress.into;
+    let mut refusal = progress.refusal;
+    let lengths = progress.lengths;
     let mut i = 0;
     'lines: while at < list.len() {
         let l = line_at(list, at);
-        let checked = check_line(l, terms, &hashes, &sizes, count);
+        let checked = check_line(l, terms, &*hashes, &*sizes, count, &mut marks);
         if checked.refusal != 0 {
             refusal = Refusal {
                 number: checked.refusal,
@@ -80,8 +85,8 @@ pub(crate) fn run_lines(
                     patch,
                     l,
                     read,
-                    &hashes,
-                    &sizes,
+                    &*hashes,
+                    &*sizes,
                     count,
                 );
                 if stopped != 0 {
@@ -91,7 +96,7 @@ pub(crate) fn run_lines(
                     };
                     break 'lines;
                 }
-                count = hold_after(&mut hashes, &mut sizes, count, read);
+                count = hold_after(hashes, sizes, count, read);
                 into = 0;
                 at = at + l.len();
                 line = line + 1;
@@ -99,9 +104,7 @@ pub(crate) fn run_lines(
         }
     }
     Ran {
-        state: State {
-            hashes,
-            sizes,
+        progress: Progress {
             count,
             line,
             at,

@@ -5,8 +5,8 @@ use borrow.Author.Needs.{needs}
 use Rattle.muongrabi.proofs.muongrabi_call.Statement.{statement}
 use Rattle.muongrabi.proofs.muongrabi_call.Tie as tie
 
-call-requires : tie.Need-call-requires
-call-requires c κs = search needs
+call-in-place-requires : tie.Need-call-in-place-requires
+call-in-place-requires c κs = search needs
 
 to-answer-requires : tie.Need-to-answer-requires
 to-answer-requires c κs = search needs
@@ -25,9 +25,9 @@ same-length-4 c = search needs
 
 returns : tie.Need-returns
 returns c =
-    ap (answeredOf _) (c .to-answer .ensures) ∙ ap answered (c .before .before .before .before .before .before .before .before .before .call .ensures)
+    ap (answeredOf _ _ _) (c .to-answer .ensures) ∙ ap answered (c .before .before .before .before .before .before .before .before .before .before .call-in-place .ensures)
 
 pub muongrabi-call-spec : {M : Type 1} → statement M
 muongrabi-call-spec =
     tie.close
-    (tie.spec call-requires to-answer-requires same-length same-length-2 same-length-3 same-length-4 returns)
+    (tie.spec call-in-place-requires to-answer-requires same-length same-length-2 same-length-3 same-length-4 returns)

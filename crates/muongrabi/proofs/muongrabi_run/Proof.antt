@@ -25,7 +25,7 @@ same-length-4 c = search needs
 
 returns : tie.Need-returns
 returns c =
-    ap (answeredOf _) (c .to-answer .ensures) ∙ ap answered (c .before .before .before .before .before .before .before .before .before .run-pieces .ensures .0)
+    ap (answeredOf _ _ _) (c .to-answer .ensures) ∙ ap answered (c .before .before .before .before .before .before .before .before .before .before .before .before .before .before .run-pieces .ensures .0)
 
 pub muongrabi-run-spec : {M : Type 1} → statement M
 muongrabi-run-spec =

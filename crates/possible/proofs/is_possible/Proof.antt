@@ -7,6 +7,7 @@ use denote.Ref.{now}
 use borrow.Author.Needs.{needs}
 use borrow.Author.Tests.{eq-eqb, ne-eqb, not-true, not-false}
 use Rattle.state.specs.Refusals.{none}
+use Rattle.state.specs.States.{stateWith}
 use Rattle.state.specs.Stashes.{tableOf}
 use Rattle.state.specs.declared.State.{State}
 use Rattle.transfer_list.specs.Header.{headerOf, startRefusal}
@@ -29,11 +30,11 @@ abbrev good : tie.Else3 → tie.After-h
 good c = c .before .before .before
 
 abbrev else-3 : tie.Else4 → tie.Else3
-else-3 c = c .before .before .before .before .before
+else-3 c = c .before .before
 
--- the state, which is lent on
+-- the state
 abbrev state : tie.Start → State
-state c = c .args .t3
+state c = stateWith (now (c .args .hashes)) (now (c .args .sizes)) (c .args .progress)
 
 -- ---- the tests, at the places past them
 lengths-same : (c : tie.Else1) → sameLengths (state (entry c) .lengths) (entry c .args .lengths) ≡ true
@@ -50,7 +51,7 @@ at-line : (c : tie.Else3) → (let a = entry (else-1 (else-2 (good c))) in
 at-line c = sym (c .before .is-at-line .ensures) ∙ not-false _ (c .if3 .left)
 
 abbrev holding : tie.After-can-hold → Bool
-holding c = let l = c .before .before .before .before in canHold (good l .h .given .0 .0) (tableOf (state (entry (else-1 (else-2 (good l))))))
+holding c = let l = c .before in canHold (good l .h .given .0 .0) (tableOf (state (entry (else-1 (else-2 (good l))))))
 
 holds-not : (c : tie.Then4) → holding (c .before) ≡ false
 holds-not c = sym (c .before .can-hold .ensures) ∙ not-true _ (c .if4 .taken)
@@ -102,7 +103,7 @@ can-hold-requires c κs = search needs
 returns-4 : tie.Need-returns-4
 unfolding isPossible possibleUnder
 returns-4 c =
-    let l = c .before .before .before .before .before in
+    let l = c .before .before in
     let h = good l in
     rw (
       lengths-same (else-1 (else-2 h)),

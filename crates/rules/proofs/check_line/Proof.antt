@@ -23,7 +23,7 @@ check-command-requires : tie.Need-check-command-requires
 check-command-requires c κs = search needs
 
 returns : tie.Need-returns
-returns c = checked _ _ _ (c .before .read-command .ensures) (c .check-command .ensures)
+returns c = checked _ _ _ (c .before .before .read-command .ensures) (c .check-command .ensures)
 
 pub check-line-spec : {M : Type 1} → statement M
 check-line-spec = tie.close (tie.spec read-command-requires check-command-requires returns)

@@ -121,18 +121,18 @@ checking-start list terms h =
     }
 
 abbrev Inv-loop : tie.InvT-loop
-Inv-loop list terms h hashes₀ sizes₀ count₀ line₀ at₀ counted₀ hashes sizes count line at counted =
+Inv-loop list terms h hashes₀ sizes₀ marks₀ count₀ line₀ at₀ counted₀ hashes sizes marks count line at counted =
     Checking list terms h (tableAt hashes sizes count) line at counted
 
 abbrev μ-loop : tie.MeasureT-loop
-μ-loop list terms h hashes₀ sizes₀ count₀ line₀ at₀ counted₀ hashes sizes count line at counted = length list - at
+μ-loop list terms h hashes₀ sizes₀ marks₀ count₀ line₀ at₀ counted₀ hashes sizes marks count line at counted = length list - at
 
 loop-holds : tie.Need-loop-holds Inv-loop μ-loop
 loop-holds c = checking-start _ _ _
 
 -- ---- from a place past the check to the line's own
 abbrev read : tie.After-check-line Inv-loop μ-loop → tie.After-line-at Inv-loop μ-loop
-read c = c .before .before .before
+read c = c .before .before .before .before
 
 abbrev passed : tie.After-bounded-sum Inv-loop μ-loop → tie.After-check-line Inv-loop μ-loop
 passed c = c .before .before .before .before .before .before .before .before

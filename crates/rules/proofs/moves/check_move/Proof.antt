@@ -9,7 +9,7 @@ use Rattle.rules.proofs.moves.check_move.Tie as tie
 returns : tie.Need-returns
 unfolding moveRefusal
 returns c =
-    let a = c .before .before .before .args in
+    let a = c .before .before .before .before .args in
     rw (← not-no (eqb (a .target .blocks) (a .n))) (c .check-sourced .ensures)
 
 pub check-move-spec : {M : Type 1} → statement M

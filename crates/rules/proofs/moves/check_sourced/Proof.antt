@@ -114,7 +114,7 @@ not-larger c = rw (← c .before .work-blocks .ensures) (le-ltb _ _ (c .if4 .lef
 differs-is : (c : tie.After-source-differs) → differing (start-7 (c .before)) ≡ c .source-differs .result
 differs-is c = sym (c .source-differs .ensures _ _ (c .before .before .before .source-sums .ensures) (start-7 (c .before) .pre))
 
-misplaced-is : (c : tie.After-places-fit) {b : Bool} → c .places-fit .result ≡ b → no (misplacing (start-8 (c .before))) ≡ b
+misplaced-is : (c : tie.After-places-fit) {b : Bool} → c .places-fit .result ≡ b → no (misplacing (start-8 (c .before .before))) ≡ b
 misplaced-is c e = sym (c .places-fit .ensures) ∙ e
 
 is-over : (c : tie.Then5) →
@@ -201,13 +201,13 @@ places-fit-requires c κs = search needs
 returns-9 : tie.Need-returns-9
 unfolding sourcedRefusal
 returns-9 c =
-    let k = c .before .before in
+    let k = c .before .before .before in
     via (past-11 k) (rw (no-true (misplacing (start-8 k)) (misplaced-is (c .before) (c .if9 .taken))))
 
 returns-10 : tie.Need-returns-10
 unfolding sourcedRefusal
 returns-10 c =
-    let k = c .before .before in
+    let k = c .before .before .before in
     via (past-11 k) (rw (no-false (misplacing (start-8 k)) (misplaced-is (c .before) (c .if9 .left))))
 
 pub check-sourced-spec : {M : Type 1} → statement M

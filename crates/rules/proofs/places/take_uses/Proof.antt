@@ -11,7 +11,6 @@ use borrow.Author.Needs.{needs}
 use borrow.Author.Tests.{not-true, not-false}
 use Rattle.ranges.specs.Walk.{blocksAt}
 use Rattle.ranges.specs.declared.RangeSet.{RangeSet}
-use Rattle.state.specs.Limits.{mostAreaBlocks}
 use Rattle.command.specs.declared.parts.Part.{Part}
 use Rattle.command.specs.declared.parts.PartRead.the-variants as read
 use Rattle.command.specs.Parts.{partAt, StashUse, usesAt}
@@ -23,22 +22,22 @@ use Rattle.rules.proofs.places.take_uses.Statement.{statement}
 use Rattle.rules.proofs.places.take_uses.Tie as tie
 
 -- the stashes from `at` on, and a pass that has their places left
-record Naming (l : List ℕ) (most n : ℕ) (before all marks : List ℕ) (at : ℕ) : Type 0 where
+record Naming (l : List ℕ) (n : ℕ) (before all marks : List ℕ) (at : ℕ) : Type 0 where
   ps : List StashUse
   from : NamedFrom l at ps
-  pass : Pass most n before all marks (placesOf l ps)
+  pass : Pass n before all marks (placesOf l ps)
 
-naming-start : (l : List ℕ) (most n : ℕ) (marks : List ℕ) (first : ℕ) → Naming l most n marks (placesOf l (usesAt l first)) marks first
-naming-start l most n marks first = record { ps = usesAt l first; from = named-start l first; pass = pass-start _ _ _ _ }
+naming-start : (l : List ℕ) (n : ℕ) (marks : List ℕ) (first : ℕ) → Naming l n marks (placesOf l (usesAt l first)) marks first
+naming-start l n marks first = record { ps = usesAt l first; from = named-start l first; pass = pass-start _ _ _ }
 
-module _ {l : List ℕ} {most n : ℕ} {before all marks : List ℕ} {at : ℕ} (k : Naming l most n before all marks at)
+module _ {l : List ℕ} {n : ℕ} {before all marks : List ℕ} {at : ℕ} (k : Naming l n before all marks at)
     (p : Part) (is : p ≡ partAt l at) where
-  naming-bad : {q : ℕ} → p .read ≡ read.Bad q → Takes most n before marks all true
+  naming-bad : {q : ℕ} → p .read ≡ read.Bad q → Takes n before marks all true
   unfolding placesOf
   naming-bad f = pass-done (pass-left (ap (placesOf l) (named-bad (k .from) (part-read l at p is f))) (k .pass))
 
   naming-last : {places : RangeSet} {next : ℕ} → p .read ≡ read.Last places next →
-      {after : List ℕ} {yes : Bool} → Takes most n marks after (blocksAt l (places .at)) yes → Takes most n before after all yes
+      {after : List ℕ} {yes : Bool} → Takes n marks after (blocksAt l (places .at)) yes → Takes n before after all yes
   unfolding placesOf
   naming-last f a =
       pass-last (pass-left (ap (placesOf l) (named-last (k .from) (part-read l at p is f)) ∙ append-nil _) (k .pass)) a
@@ -47,16 +46,16 @@ module _ {l : List ℕ} {most n : ℕ} {before all marks : List ℕ} {at : ℕ} 
     naming-next : (at < next) × (next ≤ length l)
     naming-next = part-next l at (part-read l at p is f)
 
-    naming-pass : Pass most n before all marks (blocksAt l (places .at) ++ placesOf l (named-more (k .from) (part-read l at p is f) .0))
+    naming-pass : Pass n before all marks (blocksAt l (places .at) ++ placesOf l (named-more (k .from) (part-read l at p is f) .0))
     unfolding placesOf
     naming-pass = pass-left (ap (placesOf l) (named-more (k .from) (part-read l at p is f) .1)) (k .pass)
 
-    naming-fails : {after : List ℕ} {yes : Bool} → Takes most n marks after (blocksAt l (places .at)) yes → yes ≡ false →
-        Takes most n before after all false
+    naming-fails : {after : List ℕ} {yes : Bool} → Takes n marks after (blocksAt l (places .at)) yes → yes ≡ false →
+        Takes n before after all false
     naming-fails a e = pass-fails _ _ naming-pass a e
 
-    naming-more : {after : List ℕ} {yes : Bool} → Takes most n marks after (blocksAt l (places .at)) yes → yes ≡ true →
-        Naming l most n before all after next
+    naming-more : {after : List ℕ} {yes : Bool} → Takes n marks after (blocksAt l (places .at)) yes → yes ≡ true →
+        Naming l n before all after next
     naming-more a e = record {
       ps = named-more (k .from) (part-read l at p is f) .0;
       from = named-more (k .from) (part-read l at p is f) .2;
@@ -64,13 +63,13 @@ module _ {l : List ℕ} {most n : ℕ} {before all marks : List ℕ} {at : ℕ} 
     }
 
 abbrev Inv-loop : tie.InvT-loop
-Inv-loop l first n taken₀ at₀ taken at = Naming l mostAreaBlocks n taken₀ (placesOf l (usesAt l first)) taken at
+Inv-loop l first n marks₀ at₀ marks at = Naming l n marks₀ (placesOf l (usesAt l first)) marks at
 
 abbrev μ-loop : tie.MeasureT-loop
-μ-loop l first n taken₀ at₀ taken at = length l - at
+μ-loop l first n marks₀ at₀ marks at = length l - at
 
 loop-holds : tie.Need-loop-holds Inv-loop μ-loop
-loop-holds c = naming-start _ _ _ _ _
+loop-holds c = naming-start _ _ _ _
 
 read-part-requires : tie.Need-read-part-requires Inv-loop μ-loop
 read-part-requires c κs = search needs

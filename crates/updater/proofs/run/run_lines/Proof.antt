@@ -8,7 +8,7 @@ use borrow.Author.Needs.{needs}
 use lib.ListN.{length}
 use Rattle.state.specs.Refusals.{none}
 use Rattle.state.specs.Stashes.{tableAt}
-use Rattle.state.specs.States.{stateOf}
+use Rattle.state.specs.States.{stateOf, stateWith}
 use Rattle.command.specs.Targets.{newTarget}
 use Rattle.command.specs.declared.targets.NewTarget.the-variants as new
 use Rattle.rules.specs.declared.Terms.{Terms}
@@ -26,7 +26,7 @@ use Rattle.updater.proofs.run.run_lines.Tie as tie
 
 -- The areas are as long as at the start, nothing is refused, the bytes into a `new` fit, and what is left to do from here gives the same.
 abbrev Inv-lines : tie.InvT-lines
-Inv-lines list image₀ stash₀ work₀ result₀ patch piece terms hashes₀ sizes₀ count₀ line₀ at₀ into₀ refusal₀ lengths i₀ image stash work result hashes sizes count line at into refusal i =
+Inv-lines list image₀ stash₀ work₀ result₀ patch piece terms hashes₀ sizes₀ marks₀ count₀ line₀ at₀ into₀ refusal₀ lengths i₀ image stash work result hashes sizes marks count line at into refusal i =
     (length image ≡ length image₀) × (length stash ≡ length stash₀) × (length work ≡ length work₀) × (length result ≡ length result₀)
     × (refusal .number ≡ none)
     × (into < 2 ^ 64)
@@ -36,7 +36,7 @@ Inv-lines list image₀ stash₀ work₀ result₀ patch piece terms hashes₀ s
 
 -- Each turn burns fuel, since it ends with a step that needs no byte.
 abbrev μ-lines : tie.MeasureT-lines
-μ-lines list image₀ stash₀ work₀ result₀ patch piece terms hashes₀ sizes₀ count₀ line₀ at₀ into₀ refusal₀ lengths i₀ image stash work result hashes sizes count line at into refusal i =
+μ-lines list image₀ stash₀ work₀ result₀ patch piece terms hashes₀ sizes₀ marks₀ count₀ line₀ at₀ into₀ refusal₀ lengths i₀ image stash work result hashes sizes marks count line at into refusal i =
     machine list terms .fuel (configOf (areasOf image stash work result patch) (stateOf (tableAt hashes sizes count) line at into refusal lengths))
 
 -- ---- where a turn starts, where its line is checked, where that is a `new`, where its bytes are taken, and where a command is done
@@ -57,7 +57,7 @@ abbrev Done : Type 0
 Done = tie.After-run-command Inv-lines μ-lines
 
 abbrev turn : Line → Turn
-turn c = c .before .before .before .before .before
+turn c = c .before .before .before .before .before .before
 
 abbrev line : New → Line
 line c = c .before .before .before .before .before .before
@@ -69,7 +69,7 @@ abbrev line-of : Done → Line
 line-of c = c .before .before .before .before .before .before .before .before .before .before .before .before .before
 
 abbrev start : Turn → tie.Start Inv-lines μ-lines
-start r = r .before .before .before .before .before .before .before .before .before .before .before .before
+start r = r .before .before .before .before .before .before .before .before .before .before
 
 abbrev textOf : Turn → List ℕ
 textOf r = start r .args .list .now
@@ -82,14 +82,17 @@ pieceOf r = start r .args .piece .now
 
 -- where the call starts
 abbrev first : Turn → Config
-first r = let a = start r .args in configOf (areasOf (a .image .now) (a .stash .now) (a .work .now) (a .result .now) (a .patch .now)) (a .state)
+first r =
+    let a = start r .args in
+    configOf (areasOf (a .image .now) (a .stash .now) (a .work .now) (a .result .now) (a .patch .now))
+    (stateWith (a .hashes .now) (a .sizes .now) (a .progress))
 
 -- where the turn starts
 abbrev here : Turn → Config
 here r =
     let l = r .lines in
     configOf (areasOf (l .image) (l .stash) (l .work) (l .result) (start r .args .patch .now))
-    (stateOf (tableAt (l .hashes) (l .sizes) (l .count)) (l .line) (l .at) (l .into) (l .refusal) (start r .args .state .lengths))
+    (stateOf (tableAt (l .hashes) (l .sizes) (l .count)) (l .line) (l .at) (l .into) (l .refusal) (start r .args .progress .lengths))
 
 -- ---- what is known there
 
@@ -97,11 +100,11 @@ kept : (r : Turn) → Same (machine (textOf r) (termsOf r)) (Fits (textOf r) (te
 kept r = r .lines .inv .6
 
 checks : (c : Line) →
-    Checks (textOf (turn c)) (termsOf (turn c)) (here (turn c)) (c .before .before .before .line-at .result .now) (c .check-line .result)
+    Checks (textOf (turn c)) (termsOf (turn c)) (here (turn c)) (c .before .before .before .before .line-at .result .now) (c .check-line .result)
 checks c =
     record {
-      going = record { unrefused = turn c .lines .inv .4; within = c .before .before .before .before .lines-test .taken };
-      line = c .before .before .before .line-at .ensures;
+      going = record { unrefused = turn c .lines .inv .4; within = c .before .before .before .before .before .lines-test .taken };
+      line = c .before .before .before .before .line-at .ensures;
       result = c .check-line .ensures;
     }
 
@@ -125,7 +128,7 @@ turns-new : (c : tie.Else2 Inv-lines μ-lines) →
     Turned (textOf r) (termsOf r) (pieceOf r) (first r) (here r)
     (configOf (areasOf (x .take-new .last .0) (r .lines .stash) (r .lines .work) (r .lines .result) (start r .args .patch .now))
     (stateOf (tableAt (r .lines .hashes) (r .lines .sizes) (r .lines .count)) (r .lines .line + 1)
-    (r .lines .at + length (l .before .before .before .line-at .result .now)) 0 (r .lines .refusal) (start r .args .state .lengths)))
+    (r .lines .at + length (l .before .before .before .before .line-at .result .now)) 0 (r .lines .refusal) (start r .args .progress .lengths)))
     (x .take-new .result)
 turns-new c =
     let x = c .before .before .before .before in
@@ -141,7 +144,7 @@ turns-command : (c : tie.After-hold-after Inv-lines μ-lines) →
     (configOf (areasOf (x .run-command .last .0) (x .run-command .last .1 .0) (x .run-command .last .1 .1 .0) (x .run-command .last .1 .1 .1 .0)
     (start r .args .patch .now))
     (stateOf (tableAt (c .hold-after .last .0) (c .hold-after .last .1 .0) (c .hold-after .result)) (r .lines .line + 1)
-    (r .lines .at + length (l .before .before .before .line-at .result .now)) 0 (r .lines .refusal) (start r .args .state .lengths)))
+    (r .lines .at + length (l .before .before .before .before .line-at .result .now)) 0 (r .lines .refusal) (start r .args .progress .lengths)))
     (r .lines .i)
 turns-command c =
     let x = c .before .before .before .before .before .before .before .before .before .before .before .before in
@@ -152,10 +155,10 @@ turns-command c =
 
 lines-holds : tie.Need-lines-holds Inv-lines μ-lines
 lines-holds c =
-    let a = c .before .before .before .before .before .before .before .before .before .before .before in
+    let a = c .before .before .before .before .before .before .before .before .before in
     let s = a .args .list .now in
     let terms = a .args .terms in
-    (refl, refl, refl, refl, a .pre .1, a .good .1 .1 .1 .1 .1 .1 .1 .1 .0 .1 .1 .1 .1 .1 .1 .1 .0 .1, same (machine s terms) (Fits s terms) (fits-sound s terms) (a .args .piece .now) _ 0 (a .pre .0) (omega arith))
+    (refl, refl, refl, refl, a .pre .1, a .good .1 .1 .1 .1 .1 .1 .1 .1 .1 .1 .0 .1 .1 .1 .1 .1 .0 .1, same (machine s terms) (Fits s terms) (fits-sound s terms) (a .args .piece .now) _ 0 (a .pre .0) (omega arith))
 
 line-at-requires : tie.Need-line-at-requires Inv-lines μ-lines
 line-at-requires c κs = tt

@@ -1,37 +1,47 @@
--- `updater::call` meets its contract: a refusal that is held, a state that is not possible, or a run.
+-- `updater::call_in_place` meets its contract: a refusal that is held, a state that is not possible, or a run.
 -- Assumes nothing.
 use mathlib.Core.Path.{_≡_, sym, _∙_}
 use mathlib.Core.Bool.{true}
 use mathlib.Core.List.{List}
 use Prim.Native.Nat.{ℕ}
+use native.Mathlib.Omega.{arith}
 use borrow.Author.Needs.{needs}
 use borrow.Author.Tests.{not-true, not-false}
 use lib.ListN.{length}
 use Rattle.state.specs.Limits.{tableBytes, mostStashes}
+use Rattle.state.specs.States.{stateWith}
 use Rattle.possible.specs.Possible.{isPossible}
 use Rattle.updater.specs.Areas.{areasOf}
 use Rattle.updater.specs.Steps.{Config, configOf}
 use Rattle.updater.specs.Calls.{lengthsAt}
 use Rattle.updater.proofs.CallLaws.{possible-fits, held-call, impossible-call, run-call}
-use Rattle.updater.proofs.call.Statement.{statement}
-use Rattle.updater.proofs.call.Tie as tie
+use Rattle.updater.proofs.call_in_place.Statement.{statement}
+use Rattle.updater.proofs.call_in_place.Tie as tie
 
 -- the list, and where the call starts
 abbrev text : tie.Start → List ℕ
 text a = a .args .list .now
 
 abbrev first : tie.Start → Config
-first a = configOf (areasOf (a .args .image .now) (a .args .stash .now) (a .args .work .now) (a .args .result .now) (a .args .patch .now)) (a .args .state)
+first a =
+    configOf (areasOf (a .args .image .now) (a .args .stash .now) (a .args .work .now) (a .args .result .now) (a .args .patch .now))
+    (stateWith (a .args .hashes .now) (a .args .sizes .now) (a .args .progress))
+
+abbrev else-1 : tie.Else2 → tie.Else1
+else-1 c = c .before .before .before .before
 
 abbrev start : tie.Else2 → tie.Start
-start c = c .before .before .before .before .before .before .before .before .before .before .before .before
+start c = else-1 c .before .before .before .before .before .before .before .before .before .before
 
--- the state's arrays are whole
-hashes : (a : tie.Start) → length (first a .state .hashes) ≡ tableBytes
-hashes a = search needs
+abbrev else-2 : tie.After-terms-for → tie.Else2
+else-2 c = c .before .before .before .before .before
 
-sizes : (a : tie.Start) → length (first a .state .sizes) ≡ mostStashes
-sizes a = search needs
+-- the tables are whole: they were lent as slices
+hashes : (c : tie.After-terms-for) → length (start (else-2 c) .args .hashes .now) ≡ tableBytes
+hashes c = omega arith
+
+sizes : (c : tie.After-terms-for) → length (start (else-2 c) .args .sizes .now) ≡ mostStashes
+sizes c = omega arith
 
 possible : (c : tie.Else2) → isPossible (text (start c)) (lengthsAt (text (start c)) (first (start c) .areas)) (first (start c) .state) ≡ true
 possible c = sym (c .before .is-possible .ensures) ∙ not-false _ (c .if2 .left)
@@ -44,16 +54,15 @@ is-possible-requires c κs = search needs
 
 returns-2 : tie.Need-returns-2
 returns-2 c =
-    impossible-call _ _ _ (c .before .before .if1 .left) (sym (c .before .is-possible .ensures) ∙ not-true _ (c .if2 .taken))
+    impossible-call _ _ _ (c .before .before .before .before .if1 .left) (sym (c .before .is-possible .ensures) ∙ not-true _ (c .if2 .taken))
 
 terms-for-requires : tie.Need-terms-for-requires
 terms-for-requires c κs = search needs
 
 run-lines-requires : tie.Need-run-lines-requires
 run-lines-requires c κs =
-    let l = c .before .before .before .before in
-    let a = start (l .before) in
-    (rw (l .terms-for .ensures) (possible-fits _ _ (possible (l .before)) (hashes a) (sizes a)), l .before .before .before .if1 .left)
+    let l = c .before .before .before .before .before .before in
+    (rw (l .terms-for .ensures) (possible-fits _ _ (possible (else-2 l)) (hashes l) (sizes l)), else-1 (else-2 l) .if1 .left)
 
 outcome-at-requires : tie.Need-outcome-at-requires
 outcome-at-requires c κs = search needs
@@ -73,11 +82,11 @@ same-length-4 c = search needs
 returns-3 : tie.Need-returns-3
 returns-3 c =
     let d = c .before .before .before .before .before .before .before .before .before .before .before in
-    let l = d .before .before .before .before .before in
-    run-call _ _ _ (l .before .before .before .if1 .left) (possible (l .before)) (l .terms-for .ensures) (d .run-lines .ensures) (c .outcome-at .ensures)
+    let l = d .before .before .before .before .before .before .before in
+    run-call _ _ _ (else-1 (else-2 l) .if1 .left) (possible (else-2 l)) (l .terms-for .ensures) (d .run-lines .ensures) (c .outcome-at .ensures)
 
-pub call-spec : {M : Type 1} → statement M
-call-spec =
+pub call-in-place-spec : {M : Type 1} → statement M
+call-in-place-spec =
     tie.close
     (tie.spec
     returns

@@ -23,7 +23,7 @@ use Rattle.ranges.specs.declared.walk.Walk.{Walk}
 use Rattle.ranges.specs.declared.walk.Step.{Step}
 use Rattle.ranges.specs.declared.walk.Step.the-variants.{Block, Done}
 use Rattle.ranges.specs.Ranges.{Range, pairAt, onPair, ok, pairsAt, setAt, sizeOf, endOf, rangesAt, span, blocksOf}
-use Rattle.ranges.specs.Walk.{pairsOf, rangesOf, blocksAt, walkFrom, remaining, stepIn, stepOf}
+use Rattle.ranges.specs.Walk.{pairsOf, rangesOf, blocksAt, walkFrom, remaining, stepIn, stepOf, pastRange}
 pub use Rattle.text.proofs.BelowLaws.{below-head, below-tail, below-weaken, below-left, below-right}
 use Rattle.text.proofs.BelowLaws.{below-append}
 use Rattle.ranges.proofs.RangesLaws.{pair-next, pairs-good, set-good, ranges-good, ranges-next}
@@ -113,11 +113,11 @@ module _ (s : List ℕ) (at : ℕ) {set : RangeSet} {next : ℕ} (e : rangesAt s
       omega arith
 
 -- ---- a walk meets the blocks in their order
-span-none : (a b : ℕ) → b ≤ a → span a (b - a) ≡ []
+pub span-none : (a b : ℕ) → b ≤ a → span a (b - a) ≡ []
 unfolding span
 span-none a b h = let z : b - a ≡ 0 = omega arith in rw z
 
-span-more : (a b : ℕ) → a < b → span a (b - a) ≡ a ∷ span (a + 1) (b - (a + 1))
+pub span-more : (a b : ℕ) → a < b → span a (b - a) ≡ a ∷ span (a + 1) (b - (a + 1))
 unfolding span
 span-more a b h = let z : b - a ≡ suc (b - (a + 1)) = omega arith in rw (z, add-one)
 
@@ -176,3 +176,17 @@ walk-done s w e = subst (Tells s (remaining s w)) e (walk-tells s w)
 pub walk-block : (s : List ℕ) (w : Walk) {b : ℕ} {w' : Walk} → stepOf s w ≡ Block b w' → remaining s w ≡ b ∷ remaining s w'
 unfolding Tells
 walk-block s w e = subst (Tells s (remaining s w)) e (walk-tells s w)
+
+-- the blocks of the range at hand come first
+pub walk-range : (s : List ℕ) (w : Walk) → remaining s w ≡ span (w .block) (w .end - w .block) ++ remaining s (pastRange w)
+unfolding remaining
+walk-range s w = rw (span-none (w .end) (w .end) (omega arith))
+
+-- fewer blocks are left past a step and the rest of its range
+pub walk-fewer : (s : List ℕ) (w : Walk) {b : ℕ} {w' : Walk} → stepOf s w ≡ Block b w' →
+    length (remaining s (pastRange w')) < length (remaining s w)
+walk-fewer s w {b} {w'} e =
+    let a : length (remaining s w) ≡ suc (length (remaining s w')) = ap length (walk-block s w e) in
+    let c : length (remaining s w') ≡ length (span (w' .block) (w' .end - w' .block)) + length (remaining s (pastRange w'))
+    = ap length (walk-range s w') ∙ length-append (span (w' .block) (w' .end - w' .block)) (remaining s (pastRange w')) in
+    omega arith

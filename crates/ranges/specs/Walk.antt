@@ -45,3 +45,7 @@ stepIn (suc n) s at block end =
 
 unfoldable pub stepOf : List ℕ → Walk → Step
 stepOf s w = stepIn (w .left) s (w .at) (w .block) (w .end)
+
+-- past the range at hand
+abbrev pub pastRange : Walk → Walk
+pastRange w = record { at = w .at; left = w .left; block = w .end; end = w .end }

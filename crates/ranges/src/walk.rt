@@ -1,6 +1,6 @@
 // The blocks of a range set, one after the other, read again from the text.
 ghost use mathlib.Core.Path.{_≡_};
-ghost use Rattle.ranges.specs.Walk.{walkFrom, stepOf};
+ghost use Rattle.ranges.specs.Walk.{walkFrom, stepOf, pastRange};
 use crate::Pair;
 use crate::read_pair;
 use text::number::Number;
@@ -76,4 +76,16 @@ pub fn next_block(s: &[u8], w: Walk) -> Step
             end,
         },
     )
+}
+
+// The walk past the blocks that are left of the range at hand, for who takes them all at once.
+pub fn past_range(w: Walk) -> Walk
+    ensures { λ r. ⌜ r ≡ pastRange w ⌝ }
+{
+    Walk {
+        at: w.at,
+        left: w.left,
+        block: w.end,
+        end: w.end,
+    }
 }

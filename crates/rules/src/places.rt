@@ -1,8 +1,9 @@
 // The places of a put-together source, each marked as it is taken. The marks are room that a caller has, so that they are cleared only as
 // far as N.
 ghost use mathlib.Core.Path.{_≡_};
-ghost use Prim.Native.Nat.{_≤_};
+ghost use Prim.Native.Nat.{_-_, _≤_};
 ghost use Rattle.text.specs.Choice.{no};
+ghost use Rattle.ranges.specs.Ranges.{span};
 ghost use Rattle.ranges.specs.Walk.{blocksAt};
 ghost use Rattle.state.specs.Limits.{mostAreaBlocks};
 ghost use Rattle.command.specs.Parts.{usesAt};
@@ -16,7 +17,25 @@ use marks::clear_marks;
 use marks::take_place;
 use ranges::walk::Step;
 use ranges::walk::next_block;
+use ranges::walk::past_range;
 use ranges::walk::walk_from;
+
+// Takes the places from one up to another; false where one is at n or above, or taken already.
+fn take_range(from: usize, to: usize, n: usize, marks: &mut [u8; MARK_BYTES]) -> bool
+    ensures { λ r. ⌜ Takes n (now (marks .entry)) (now (marks .exit)) (span from (to - from)) r ⌝ }
+{
+    let mut p = from;
+    while p < to {
+        if n <= p {
+            return false;
+        }
+        if !take_place(marks, p) {
+            return false;
+        }
+        p += 1;
+    }
+    true
+}
 
 // Takes the places of the set at a position; false where one is at n or above, or taken already.
 fn take_places(l: &[u8], at: usize, n: usize, marks: &mut [u8; MARK_BYTES]) -> bool
@@ -36,7 +55,10 @@ fn take_places(l: &[u8], at: usize, n: usize, marks: &mut [u8; MARK_BYTES]) -> b
                 if !take_place(marks, p) {
                     return false;
                 }
-                w = rest;
+                if !take_range(rest.block as usize, rest.end as usize, n, marks) {
+                    return false;
+                }
+                w = past_range(rest);
             }
         }
     }

@@ -49,7 +49,7 @@ fn areas_of(areas: Areas) -> muongrabi::Areas {
 }
 
 /// Every field, those past the count too, since whole states are compared.
-fn library_state(state: &State) -> muongrabi::State {
+pub fn library_state(state: &State) -> muongrabi::State {
     let State { hashes, sizes, count, line, at, into, refusal, lengths } = *state;
     let Lengths { list, image, stash, work, result, patch } = lengths;
     muongrabi::State::from(&Fields {

@@ -1,15 +1,16 @@
 //! Times of the library beside the same work in plain Rust. The two sides take turns, and which is first changes from run to run, so
 //! that a slow phase of the machine meets both. Times are processor time, medians of nine runs; the ratio is the median of the nine runs'
 //! ratios, with the least and the greatest beside it.
-//! usage: bench [--self] [digest] [moves] [patches] [open] [new] [sparse]   (--self times plain Rust in the library's place; no words: all)
+//! usage: bench [--self] [digest] [moves] [patches] [open] [calls] [new] [sparse]
+//! (--self times plain Rust in the library's place; no words: all)
 
 use check::generate::patch::{patch_of, Record};
 use check::generate::sparse::{Chunk, SparseFile, DONT_CARE, FILL, RAW};
 use check::generate::Rng;
-use check::library::outcome_of;
+use check::library::{library_state, outcome_of};
 use check::{hex, Implementation, Library, Plain};
 use muongrabi::{Areas, Lengths};
-use reference::{digest, plain, Hash, Outcome, Rooms, BLOCK, MOST_LIST};
+use reference::{digest, plain, Hash, Outcome, Rooms, BLOCK, MOST_LIST, MOST_STASHES};
 use std::hint::black_box;
 use std::time::Duration;
 
@@ -41,6 +42,9 @@ fn measure<S: Side>(wanted: impl Fn(&str) -> bool) {
     if wanted("open") {
         openings::<S>();
     }
+    if wanted("calls") {
+        calls::<S>();
+    }
     if wanted("new") {
         new_data::<S>();
     }
@@ -53,6 +57,8 @@ fn measure<S: Side>(wanted: impl Fn(&str) -> bool) {
 trait Side {
     type State;
     fn digest(bytes: &[u8]) -> Hash;
+    /// This state in the side's own form.
+    fn state(state: &reference::State) -> Self::State;
     /// The first state, or the refusal's number.
     fn open(list: &[u8], lengths: Lengths) -> Result<Self::State, usize>;
     /// How the call ended, and the bytes it took.
@@ -65,6 +71,9 @@ impl Side for Library {
     type State = muongrabi::State;
     fn digest(bytes: &[u8]) -> Hash {
         muongrabi::digest(bytes)
+    }
+    fn state(state: &reference::State) -> muongrabi::State {
+        library_state(state)
     }
     fn open(list: &[u8], lengths: Lengths) -> Result<muongrabi::State, usize> {
         muongrabi::open(list, lengths).map_err(|refusal| refusal.number())
@@ -82,6 +91,9 @@ impl Side for Plain {
     type State = reference::State;
     fn digest(bytes: &[u8]) -> Hash {
         digest(bytes)
+    }
+    fn state(state: &reference::State) -> reference::State {
+        *state
     }
     fn open(list: &[u8], lengths: Lengths) -> Result<reference::State, usize> {
         let state = plain::open(list, rooms(lengths));
@@ -399,6 +411,20 @@ fn openings<S: Side>() {
     });
     opening::<S>("4 MiB of bsdiff lines", &patched, areas, 0);
 
+    // Stashes of one to eight blocks, and moves of as many that name one of them, alone or behind blocks of the image.
+    let few: String = (1..=8).map(|n| format!("stash {} 2,0,{n}\n", names[n])).collect();
+    let small = fill_list(8, 36, &few, |k| {
+        let n = rng.between(1, 8);
+        let (to, from, held) = (rng.below(image - n), rng.below(image - n), rng.between(1, n));
+        let (h, stash) = (&names[100 + k % 900], &names[held]);
+        let source = match n - held {
+            0 => format!("- {stash}:2,0,{n}"),
+            m => format!("2,{from},{} 2,0,{m} {stash}:2,{m},{n}", from + m),
+        };
+        (n, format!("move {h} 2,{to},{} {n} {source}\n", to + n))
+    });
+    opening::<S>("4 MiB of small moves", &small, areas, 0);
+
     let h = name(0);
     let one = format!("stash {h} 2,0,1\n");
     let wide = fill_list(1, 1, &one, |_| (2, format!("move {h} 2,0,2 2 2,0,1 2,0,4294967295 {h}:2,0,4294967295\n")));
@@ -416,6 +442,37 @@ fn openings<S: Side>() {
     let single: String = (0..4_096).map(|k| format!(",{k},{}", k + 1)).collect();
     let ragged = fill_list(1, 4_096, &large, |_| (4_096, format!("move {h} 2,0,4096 4096 - {h}:8192{single}\n")));
     opening::<S>("4,096 places, each a range of its own", &ragged, areas, 0);
+}
+
+/// Calls that take nothing and write nothing, at a `new` that waits for its first byte: what a call costs by itself. The stashes are made by the
+/// list, or come with the state alone, over a list of one line.
+fn calls<S: Side>() {
+    let block = |k: usize| [k as u8; BLOCK];
+    for held in [0, 1, MOST_STASHES] {
+        let stashes: String = (0..held).map(|k| format!("stash {} 2,{k},{}\n", hex(&digest(&block(k))), k + 1)).collect();
+        let [list, short] = [&stashes[..], ""].map(|lines| format!("3\n1\n{held}\n{held}\n{lines}new 2,0,1\n").into_bytes());
+        let mut image: Vec<u8> = (0..MOST_STASHES).flat_map(block).collect();
+        let (mut stash, mut work) = (vec![0; held * BLOCK], vec![0; BLOCK]);
+        let areas = reference::Areas { image: &mut image, stash: &mut stash, work: &mut work, result: &mut [], patch: &[] };
+        let rooms = areas.rooms();
+        let state = Plain.run(&list, areas, &[], &[]).state;
+        assert_eq!(state.count, held);
+        let first = reference::State { hashes: state.hashes, sizes: state.sizes, count: held, ..Plain.open(&short, rooms) };
+        for (name, list, state) in [("", &list, state), (", a short list", &short, first)] {
+            let times = turns(|| call_times::<S>(list, &state), || call_times::<Plain>(list, &state));
+            line(&format!("a call with nothing, {held} stashes{name}"), times, 0);
+        }
+    }
+}
+
+/// One of a thousand calls with no data from this state, which they leave as it is.
+fn call_times<S: Side>(list: &[u8], state: &reference::State) -> Duration {
+    const CALLS: u32 = 1_000;
+    let area = |bytes: usize| vec![0; bytes];
+    let reference::Lengths { image, stash, work, .. } = state.lengths;
+    let mut areas = Areas { image: &mut area(image), stash: &mut area(stash), work: &mut area(work), result: &mut [], patch: &[] };
+    let mut state = S::state(state);
+    timed(|| (0..CALLS).for_each(|_| assert_eq!(S::call(black_box(list), areas.reborrow(), &[], &mut state), (Outcome::More, 0)))) / CALLS
 }
 
 fn new_data<S: Side>() {

@@ -38,16 +38,16 @@
 extern "C" {
 #endif
 
-#define MUONGRABI_VERSION "0.4.0"
-#define MUONGRABI_ABI 2   /* another number whenever the layout of a struct or the parameters of a function below change */
+#define MUONGRABI_VERSION "0.5.0"
+#define MUONGRABI_ABI 3   /* another number whenever the layout of a struct or the parameters of a function below change */
 
 /* Limits, 64 bits wide, so that blocks times bytes do not wrap. */
 #define MUONGRABI_BLOCK 4096ul          /* bytes of a block */
 #define MUONGRABI_MOST_IMAGE 1048576ul  /* blocks of the image */
-#define MUONGRABI_MOST_AREA 4096ul      /* blocks of the stash area, and of the work area */
+#define MUONGRABI_MOST_AREA 32768ul     /* blocks of the stash area, and of the work area */
 #define MUONGRABI_MOST_RESULT 4096ul    /* blocks of the result area */
 #define MUONGRABI_MOST_LIST 4194304ul   /* bytes of the list */
-#define MUONGRABI_MOST_STASHES 64ul     /* stashes held at once */
+#define MUONGRABI_MOST_STASHES 256ul    /* stashes held at once */
 
 /* Outcomes of a call. */
 #define MUONGRABI_DONE 0u      /* the list is finished */
@@ -66,7 +66,7 @@ enum muongrabi_refusal_number {
     MUONGRABI_REFUSAL_LIST_LENGTH = 2,       /* list too long; line 0 */
     MUONGRABI_REFUSAL_HEADER_FORM = 3,       /* header line absent, ill formed or without LF */
     MUONGRABI_REFUSAL_OTHER_VERSION = 4,     /* version not 3; line 1 */
-    MUONGRABI_REFUSAL_HEADER_LIMIT = 5,      /* line 3 over 64; else line 4 over the stash area */
+    MUONGRABI_REFUSAL_HEADER_LIMIT = 5,      /* line 3 over 256; else line 4 over the stash area */
     MUONGRABI_REFUSAL_LINE_FORM = 6,         /* command line ill formed, or its word unknown */
     MUONGRABI_REFUSAL_UNSUPPORTED = 7,       /* first word imgdiff, whatever follows */
     MUONGRABI_REFUSAL_PAST_IMAGE = 8,        /* a range of target or image source ends past the image */
@@ -93,7 +93,7 @@ enum muongrabi_refusal_number {
 
 /*
  * A state is impossible when the areas and the list's header would now give 1 to 5; when `at` is past the list's end, before the first
- * command line or not at a line's start (the end after an LF is one), or `line` is not that line's number; when it holds over 64
+ * command line or not at a line's start (the end after an LF is one), or `line` is not that line's number; when it holds over 256
  * stashes, one hash twice, or more blocks than line 4 or the stash area; or when `into` is not 0 and the line is no good `new` (6, 8)
  * or has no more bytes than that.
  */
@@ -107,7 +107,7 @@ static inline const char *muongrabi_refusal_text(size_t number)
         "the list is longer than 4194304 bytes",
         "a header line is missing, is no number from 0 to 4294967295 in plain digits, or has no line feed",
         "the list's version is not 3",
-        "the list asks for more than 64 stashes, or for more blocks than the stash area has",
+        "the list asks for more than 256 stashes, or for more blocks than the stash area has",
         "the line is not a command: its word is unknown, or its form is wrong",
         "the command imgdiff is not supported",
         "a range of the target or source ends past the image",
@@ -188,23 +188,23 @@ typedef struct muongrabi_answer {
 MUONGRABI_LAYOUT(number, sizeof(size_t) == 8);
 MUONGRABI_LAYOUT(refusal, sizeof(muongrabi_refusal) == 16);
 MUONGRABI_LAYOUT(lengths, sizeof(muongrabi_lengths) == 48);
-MUONGRABI_LAYOUT(state_sizes, offsetof(muongrabi_state, sizes) == 1280);
-MUONGRABI_LAYOUT(state_count, offsetof(muongrabi_state, count) == 1792);
-MUONGRABI_LAYOUT(state_line, offsetof(muongrabi_state, line) == 1800);
-MUONGRABI_LAYOUT(state_at, offsetof(muongrabi_state, at) == 1808);
-MUONGRABI_LAYOUT(state_into, offsetof(muongrabi_state, into) == 1816);
-MUONGRABI_LAYOUT(state_refusal, offsetof(muongrabi_state, refusal) == 1824);
-MUONGRABI_LAYOUT(state_lengths, offsetof(muongrabi_state, lengths) == 1840);
-MUONGRABI_LAYOUT(state, sizeof(muongrabi_state) == 1888);
-MUONGRABI_LAYOUT(answer_outcome, offsetof(muongrabi_answer, outcome) == 1888);
-MUONGRABI_LAYOUT(answer_number, offsetof(muongrabi_answer, number) == 1896);
-MUONGRABI_LAYOUT(answer_line, offsetof(muongrabi_answer, line) == 1904);
-MUONGRABI_LAYOUT(answer_taken, offsetof(muongrabi_answer, taken) == 1912);
-MUONGRABI_LAYOUT(answer, sizeof(muongrabi_answer) == 1920);
+MUONGRABI_LAYOUT(state_sizes, offsetof(muongrabi_state, sizes) == 5120);
+MUONGRABI_LAYOUT(state_count, offsetof(muongrabi_state, count) == 7168);
+MUONGRABI_LAYOUT(state_line, offsetof(muongrabi_state, line) == 7176);
+MUONGRABI_LAYOUT(state_at, offsetof(muongrabi_state, at) == 7184);
+MUONGRABI_LAYOUT(state_into, offsetof(muongrabi_state, into) == 7192);
+MUONGRABI_LAYOUT(state_refusal, offsetof(muongrabi_state, refusal) == 7200);
+MUONGRABI_LAYOUT(state_lengths, offsetof(muongrabi_state, lengths) == 7216);
+MUONGRABI_LAYOUT(state, sizeof(muongrabi_state) == 7264);
+MUONGRABI_LAYOUT(answer_outcome, offsetof(muongrabi_answer, outcome) == 7264);
+MUONGRABI_LAYOUT(answer_number, offsetof(muongrabi_answer, number) == 7272);
+MUONGRABI_LAYOUT(answer_line, offsetof(muongrabi_answer, line) == 7280);
+MUONGRABI_LAYOUT(answer_taken, offsetof(muongrabi_answer, taken) == 7288);
+MUONGRABI_LAYOUT(answer, sizeof(muongrabi_answer) == 7296);
 #undef MUONGRABI_LAYOUT
 
 /* MUONGRABI_ABI as the archive has it. The name has the number too: what was compiled with a header of another ABI does not link. */
-size_t muongrabi_abi_2(void);
+size_t muongrabi_abi_3(void);
 
 /* Writes the SHA-1 digest of the bytes to out. */
 void muongrabi_digest(const uint8_t *bytes, size_t bytes_length, uint8_t out[20]);
@@ -263,7 +263,7 @@ uint32_t muongrabi_sparse_load(const uint8_t *file, size_t file_length, uint8_t 
 
 /*
  * Null pointers. The exports want a pointer that is not null even where they read nothing through it. So each name above stands, from here
- * on, for an inline function that lends no bytes where it is given null. All but the digest's name muongrabi_abi_2 too. Who calls the exports
+ * on, for an inline function that lends no bytes where it is given null. All but the digest's name muongrabi_abi_3 too. Who calls the exports
  * from another language passes pointers that are not null.
  */
 static inline const uint8_t *muongrabi_lent_bytes(const uint8_t *bytes)
@@ -298,7 +298,7 @@ static inline muongrabi_state muongrabi_open_lent(const uint8_t *list, size_t li
                                                   size_t image_length, size_t stash_length, size_t work_length,
                                                   size_t result_length, size_t patch_length)
 {
-    (void)muongrabi_abi_2();
+    (void)muongrabi_abi_3();
     return muongrabi_open(muongrabi_lent_bytes(list), muongrabi_lent_length(list, list_length),
                           image_length, stash_length, work_length, result_length, patch_length);
 }
@@ -312,7 +312,7 @@ static inline muongrabi_answer muongrabi_call_lent(const uint8_t *list, size_t l
                                                    const uint8_t *piece, size_t piece_length,
                                                    muongrabi_state state)
 {
-    (void)muongrabi_abi_2();
+    (void)muongrabi_abi_3();
     return muongrabi_call(muongrabi_lent_bytes(list), muongrabi_lent_length(list, list_length),
                           muongrabi_lent_area(image), muongrabi_lent_length(image, image_length),
                           muongrabi_lent_area(stash), muongrabi_lent_length(stash, stash_length),
@@ -331,7 +331,7 @@ static inline muongrabi_answer muongrabi_run_lent(const uint8_t *list, size_t li
                                                   const uint8_t *data, size_t data_length,
                                                   const size_t *cuts, size_t cuts_length)
 {
-    (void)muongrabi_abi_2();
+    (void)muongrabi_abi_3();
     return muongrabi_run(muongrabi_lent_bytes(list), muongrabi_lent_length(list, list_length),
                          muongrabi_lent_area(image), muongrabi_lent_length(image, image_length),
                          muongrabi_lent_area(stash), muongrabi_lent_length(stash, stash_length),
@@ -344,7 +344,7 @@ static inline muongrabi_answer muongrabi_run_lent(const uint8_t *list, size_t li
 
 static inline uint32_t muongrabi_sparse_load_lent(const uint8_t *file, size_t file_length, uint8_t *image, size_t image_length)
 {
-    (void)muongrabi_abi_2();
+    (void)muongrabi_abi_3();
     return muongrabi_sparse_load(muongrabi_lent_bytes(file), muongrabi_lent_length(file, file_length),
                                  muongrabi_lent_area(image), muongrabi_lent_length(image, image_length));
 }

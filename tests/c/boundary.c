@@ -377,7 +377,7 @@ static void patches(void)
 static void nothing_lent(void)
 {
     static const char *empty = "3\n0\n0\n0\n";
-    static const char *some = "3\n1\n64\n0\nzero 2,0,0\nnew 2,0,0\nnew 2,0,1\n";
+    static const char *some = "3\n1\n256\n0\nzero 2,0,0\nnew 2,0,0\nnew 2,0,1\n";
     lot none = new_lot(0);
     for (int behind = 0; behind < 2; behind++) {
         const uint8_t *l = lay(&list_lot, empty, strlen(empty), behind, 1);
@@ -394,7 +394,7 @@ static void nothing_lent(void)
     }
 
     static uint8_t image[BLOCK];
-    size_t borders[] = {0, 1, 4, 5, 6, 7, 8, 9, 19, 20, 30, 40, 63, 64, 65, 4095, 4096, 4097, (size_t)1 << 63, SIZE_MAX - 4095, SIZE_MAX - 1, SIZE_MAX};
+    size_t borders[] = {0, 1, 4, 5, 6, 7, 8, 9, 19, 20, 30, 40, 64, 65, 255, 256, 257, 4095, 4096, 4097, (size_t)1 << 63, SIZE_MAX - 4095, SIZE_MAX - 1, SIZE_MAX};
     size_t many = sizeof borders / sizeof *borders;
     int good = 1;
     const uint8_t *l = lay(&list_lot, some, strlen(some), 1, 1);
@@ -406,7 +406,7 @@ static void nothing_lent(void)
         for (size_t b = 0; b < many; b++) {
             for (size_t c = 0; c < 8; c++) {
                 muongrabi_state state = open;
-                size_t *fields[] = {&state.at, &state.line, &state.into, &state.count, &state.sizes[0], &state.sizes[63],
+                size_t *fields[] = {&state.at, &state.line, &state.into, &state.count, &state.sizes[0], &state.sizes[MUONGRABI_MOST_STASHES - 1],
                                     &state.lengths.result, &state.lengths.patch};
                 *fields[c] = borders[a];
                 *fields[(c + 1 + a % 7) % 8] = borders[b];
@@ -536,7 +536,7 @@ static void null_pointers(void)
     static const char *one = "3\n1\n0\n0\nnew 2,0,1\n";
     static uint8_t image[BLOCK], data[BLOCK];
     uint8_t nothing[20], hash[20];
-    check(muongrabi_abi_2() == MUONGRABI_ABI, "the archive is of this header");
+    check(muongrabi_abi_3() == MUONGRABI_ABI, "the archive is of this header");
     muongrabi_digest((const uint8_t *)"", 0, nothing);
     muongrabi_digest(NULL, 0, hash);
     check(memcmp(hash, nothing, 20) == 0, "digest of null");

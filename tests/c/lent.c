@@ -23,7 +23,7 @@ static void note(int k, const void *pointer, size_t length)
     lengths[k] = length;
 }
 
-size_t muongrabi_abi_2(void)
+size_t muongrabi_abi_3(void)
 {
     asked++;
     return MUONGRABI_ABI;

@@ -3,7 +3,7 @@
 use check::compare::{Checker, Series, SparseChecker};
 use check::generate::{disturb, Rng};
 use check::{Library, Model};
-use reference::{plain, Areas, Rooms, State, BLOCK};
+use reference::{plain, Areas, Rooms, State, BLOCK, MOST_STASHES};
 
 fn seeded_cases(checker: &mut dyn Series) {
     for index in 0..5_000 {
@@ -56,7 +56,7 @@ fn shapeless_bytes() {
 fn lengths_that_do_not_fit_the_state() {
     // Every combination of border values in position, line, count and bytes.
     let list = b"3\n1\n1\n1\nnew 2,0,1\n";
-    let borders = [0, 1, 4, 5, 6, 7, 8, 18, 19, 64, 65, 4_095, 4_096, 1 << 32, 1 << 63, usize::MAX];
+    let borders = [0, 1, 4, 5, 6, 7, 8, 18, 19, 64, 65, MOST_STASHES, MOST_STASHES + 1, 4_096, 1 << 32, 1 << 63, usize::MAX];
     let opened = plain::open(list, Rooms { image: BLOCK, stash: BLOCK, work: BLOCK, result: 0, patch: 0 });
     let (mut image, mut stash, mut work) = (vec![1; BLOCK], vec![2; BLOCK], vec![3; BLOCK]);
     let mut areas = Areas { image: &mut image, stash: &mut stash, work: &mut work, result: &mut [], patch: &[] };
@@ -65,7 +65,7 @@ fn lengths_that_do_not_fit_the_state() {
             for count in borders {
                 for into in borders {
                     let mut state = State { at, line, count, into, ..opened };
-                    state.sizes = [count; 64];
+                    state.sizes = [count; MOST_STASHES];
                     let answer = plain::call(list, areas.reborrow(), b"", state);
                     let fits = (at, line) == (8, 5) || (at, line) == (18, 6);
                     let held = count == 0 || count == 1;

@@ -5,7 +5,7 @@ mod common;
 use check::hex;
 use common::*;
 use reference::Outcome::{Done, More};
-use reference::{Answer, Refusal, Rooms, State, BLOCK};
+use reference::{Answer, Refusal, Rooms, State, BLOCK, MOST_AREA, MOST_IMAGE, MOST_RESULT};
 
 /// What an opening is refused with, the same on all.
 fn refusal(list: &str) -> (usize, usize) {
@@ -155,13 +155,98 @@ fn header_lines() {
         ("3\n4294967296\n0\n0\n", (3, 2)),
         ("3\n4294967295\n0\n0\n", (15, 2)),
         ("3\nimgdiff\n0\n0\n", (3, 2)),
-        ("1\n0\n65\n4\n", (4, 1)),
-        ("3\n0\n65\n4\n", (5, 3)),
-        ("3\n0\n64\n4\n", (5, 4)),
-        ("3\n0\n64\n3\n", (0, 0)),
+        ("1\n0\n257\n4\n", (4, 1)),
+        ("3\n0\n257\n4\n", (5, 3)),
+        ("3\n0\n257\n3\n", (5, 3)),
+        ("3\n0\n4294967295\n3\n", (5, 3)),
+        ("3\n0\n256\n4\n", (5, 4)),
+        ("3\n0\n256\n3\n", (0, 0)),
+        ("3\n0\n65\n3\n", (0, 0)),
         ("4294967295\n0\n0\n0\n", (4, 1)),
     ] {
         assert_eq!(refusal(list), want, "{list:?}");
+    }
+}
+
+/// The header of document 002, and borders of the limits that it has to fit.
+#[test]
+fn the_header_of_a_real_list() {
+    for (list, stash, want) in [
+        ("3\n314733\n108\n10584\n", 10_584, (15, 2)),
+        ("3\n0\n108\n10584\n", 10_584, (0, 0)),
+        ("3\n0\n108\n10584\n", 32_768, (0, 0)),
+        ("3\n0\n108\n10584\n", 10_583, (5, 4)),
+        ("3\n0\n108\n10584\n", 4_096, (5, 4)),
+        ("3\n0\n108\n10584\n", 32_769, (1, 0)),
+        ("3\n0\n256\n32768\n", 32_768, (0, 0)),
+        ("3\n0\n256\n32769\n", 32_768, (5, 4)),
+        ("3\n0\n257\n32768\n", 32_768, (5, 3)),
+    ] {
+        for on in all() {
+            let Refusal { number, line } = on.open(list.as_bytes(), Rooms { stash: stash * BLOCK, ..Rooms::default() }).refusal;
+            assert_eq!((number, line), want, "{list:?}, {stash} blocks");
+        }
+    }
+    // Its first lines, in its own places of an image of 4 GiB: N of 16,290 is taken, and the target of 16,276 is over every result area.
+    let (h, t) = ("ffc645d03fa4f56e72fefa872b792a76c26f9bb4", "4bc0c9ddf123d54a04c800824c0951873e195ef1");
+    let moves = format!("move {h} 2,289578,289582 4 2,287350,287354\nmove {h} 2,285947,288845 2898 2,283719,286617\n");
+    let patched = format!("bsdiff 0 3169086 {h} {t} 2,295583,299679 16290 2,295583,311873\n");
+    let too_long = format!("bsdiff 0 3169086 {h} {t} 2,295583,311859 16290 2,295583,311873\n");
+    for (lines, work, want) in
+        [(format!("{moves}{patched}"), 16_290, (0, 0)), (format!("{moves}{patched}"), 16_289, (9, 7)), (format!("{moves}{too_long}"), 32_768, (9, 7))]
+    {
+        let list = format!("3\n6998\n108\n10584\n{lines}");
+        let rooms = Rooms { image: 1_048_576 * BLOCK, stash: 10_584 * BLOCK, work: work * BLOCK, result: 4_096 * BLOCK, patch: 3_169_086 };
+        for on in all() {
+            let Refusal { number, line } = on.open(list.as_bytes(), rooms).refusal;
+            assert_eq!((number, line), want, "{lines}");
+        }
+    }
+}
+
+/// Sizes and places up to the largest area, which an opening judges by their numbers alone.
+#[test]
+fn sizes_up_to_the_largest_area() {
+    let (h, other) = ("da39a3ee5e6b4b0d3255bfef95601890afd80709", "a9993e364706816aba3e25717850c26c9cd0d89d");
+    let area = MOST_AREA;
+    let most = format!("stash {h} 2,0,{area}\n");
+    let two = format!("stash {h} 2,0,5000\nstash {other} 2,0,20000\n");
+    let rooms = Rooms { image: MOST_IMAGE * BLOCK, stash: area * BLOCK, work: area * BLOCK, result: MOST_RESULT * BLOCK, patch: 0 };
+    for (total, lines, want) in [
+        (0, most.clone(), (0, 0)),
+        (0, format!("stash {h} 2,0,32769\n"), (9, 5)),
+        (0, format!("{most}stash {other} 2,0,0\n"), (0, 0)),
+        (0, format!("{most}stash {other} 2,0,1\n"), (14, 6)),
+        (0, format!("{most}free {h}\nstash {other} 2,0,32768\n"), (0, 0)),
+        (32_768, format!("move {h} 2,0,32768 32768 2,1,32769\n"), (0, 0)),
+        (32_769, format!("move {h} 2,0,32769 32769 2,1,32770\n"), (9, 5)),
+        (32_768, format!("{most}move {h} 2,0,32768 32768 - {h}:2,0,32768\n"), (0, 0)),
+        (32_768, format!("{most}move {h} 2,0,32768 32768 - {h}:4,32767,32768,0,32767\n"), (0, 0)),
+        (32_768, format!("{most}move {h} 2,0,32768 32768 - {h}:2,1,32769\n"), (12, 6)),
+        (32_768, format!("{most}move {h} 2,0,32768 32768 - {h}:4,0,32767,32766,32767\n"), (12, 6)),
+        (32_768, format!("{most}move {h} 2,0,32768 32768 - {h}:4,0,32767,0,1\n"), (12, 6)),
+        (32_768, format!("{most}move {h} 2,0,32768 32768 - {h}:4,0,4097,4096,32767\n"), (12, 6)),
+        (32_768, format!("{most}move {h} 2,0,32768 32768 - {h}:4,1,32768,0,1\n"), (0, 0)),
+        (30_000, format!("{two}move {h} 2,0,30000 30000 2,7,5007 2,10000,15000 {h}:2,5000,10000 {other}:4,15000,30000,0,5000\n"), (0, 0)),
+        (30_000, format!("{two}move {h} 2,0,30000 30000 2,7,5007 2,10000,15000 {h}:2,5000,10000 {other}:4,14999,29999,0,5000\n"), (12, 7)),
+        (30_000, format!("{two}move {h} 2,0,30000 30000 2,7,5007 2,10000,15000 {h}:2,5001,10001 {other}:4,15000,30000,0,5000\n"), (12, 7)),
+        (30_000, format!("{two}move {h} 2,0,30000 30000 2,7,5007 2,10000,15000 {h}:2,5000,10000 {other}:4,15001,30001,0,5000\n"), (12, 7)),
+        (4_096, format!("{most}bsdiff 0 0 {h} {h} 2,0,4096 32768 - {h}:2,0,32768\n"), (0, 0)),
+        (4_097, format!("{most}bsdiff 0 0 {h} {h} 2,0,4097 32768 - {h}:2,0,32768\n"), (9, 6)),
+    ] {
+        let list = format!("3\n{total}\n2\n{area}\n{lines}");
+        for on in all() {
+            let Refusal { number, line } = on.open(list.as_bytes(), rooms).refusal;
+            assert_eq!((number, line), want, "{lines}");
+        }
+    }
+    // The marks that one line leaves are not the next one's, whatever its N is.
+    let lines = format!(
+        "{two}move {h} 2,0,20000 20000 - {other}:2,0,20000\nmove {h} 2,0,5000 5000 - {h}:2,0,5000\n\
+         move {h} 2,0,25000 25000 - {h}:2,0,5000 {other}:2,5000,25000\nmove {h} 2,0,20000 20000 - {other}:4,4097,20000,0,4097\n"
+    );
+    for on in all() {
+        assert_eq!(on.open(format!("3\n70000\n2\n25000\n{lines}").as_bytes(), rooms).refusal, Refusal { number: 0, line: 0 });
     }
 }
 
@@ -228,7 +313,7 @@ fn command_lines() {
 #[test]
 fn area_lengths() {
     let list = b"3\n0\n0\n0\n";
-    let whole = 4_096 * 4_096;
+    let (area, whole) = (32_768 * 4_096, 4_096 * 4_096);
     for on in all() {
         for (image, stash, work, result, want) in [
             (0, 0, 0, 0, 0),
@@ -237,10 +322,16 @@ fn area_lengths() {
             (0, 0, BLOCK + 1, 0, 1),
             (0, 0, 0, BLOCK - 1, 1),
             (0, 0, 0, 1, 1),
-            (256 * whole, whole, whole, whole, 0),
-            (256 * whole + BLOCK, whole, whole, whole, 1),
-            (0, whole + BLOCK, 0, 0, 1),
-            (0, 0, whole + BLOCK, 0, 1),
+            (256 * whole, area, area, whole, 0),
+            (256 * whole + BLOCK, area, area, whole, 1),
+            (0, area, 0, 0, 0),
+            (0, 0, area, 0, 0),
+            (0, area - BLOCK, area - BLOCK, 0, 0),
+            (0, whole + BLOCK, whole + BLOCK, 0, 0),
+            (0, area + BLOCK, 0, 0, 1),
+            (0, 0, area + BLOCK, 0, 1),
+            (0, area + 1, 0, 0, 1),
+            (0, 0, area - 1, 0, 1),
             (0, 0, 0, whole + BLOCK, 1),
             (0, 0, 0, whole + 1, 1),
             (usize::MAX, 0, 0, 0, 1),

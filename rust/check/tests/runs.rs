@@ -5,7 +5,7 @@ mod common;
 use check::hex;
 use common::*;
 use reference::Outcome::{Done, More};
-use reference::{digest, Lengths, Refusal, Rooms, State, BLOCK};
+use reference::{digest, Lengths, Refusal, Rooms, State, BLOCK, MOST_AREA, MOST_STASHES};
 
 #[test]
 fn pieces_of_any_length() {
@@ -89,7 +89,7 @@ fn impossible_states() {
     assert_eq!(edit(&|s| s.into = usize::MAX), 17);
     assert_eq!(edit(&|s| s.count = 1), 0);
     assert_eq!(edit(&|s| s.count = 2), 17);
-    assert_eq!(edit(&|s| s.count = 65), 17);
+    assert_eq!(edit(&|s| s.count = MOST_STASHES + 1), 17);
     assert_eq!(edit(&|s| s.count = usize::MAX), 17);
     assert_eq!(edit(&|s| (s.count, s.sizes[0]) = (1, 2)), 0);
     assert_eq!(edit(&|s| (s.count, s.sizes[0]) = (1, 3)), 17);
@@ -101,14 +101,42 @@ fn impossible_states() {
         }),
         17
     );
-    // More stashes than line 3, up to 64, are possible.
-    assert_eq!(
-        edit(&|s| {
-            (0..64).for_each(|k| hash(s, k, k as u8));
-            s.count = 64;
-        }),
-        0
-    );
+    // More stashes than line 3, up to the most, are possible.
+    let full = |s: &mut State| {
+        (0..MOST_STASHES).for_each(|k| hash(s, k, k as u8));
+        s.count = MOST_STASHES;
+    };
+    assert_eq!(edit(&full), 0);
+    for count in [MOST_STASHES + 1, MOST_STASHES + 2, 2 * MOST_STASHES] {
+        assert_eq!(
+            edit(&|s| {
+                full(s);
+                s.count = count;
+            }),
+            17
+        );
+    }
+    // One hash twice, near to one another and far apart; past the count it does not matter.
+    for (j, k) in [(0, 1), (0, 63), (0, 64), (63, 64), (64, 65), (0, 255), (100, 200), (1, 254), (254, 255)] {
+        for count in [k, k + 1] {
+            let twice = edit(&|s| {
+                full(s);
+                hash(s, k, j as u8);
+                s.count = count;
+            });
+            assert_eq!(twice, if count > k { 17 } else { 0 }, "{j} {k} {count}");
+        }
+    }
+    // The last stash's blocks count.
+    for (blocks, want) in [(2, 0), (3, 17), (usize::MAX, 17)] {
+        assert_eq!(
+            edit(&|s| {
+                full(s);
+                s.sizes[MOST_STASHES - 1] = blocks;
+            }),
+            want
+        );
+    }
     assert_eq!(edit(&|s| s.lengths.list += 1), 17);
     assert_eq!(edit(&|s| s.lengths.image += BLOCK), 17);
     assert_eq!(edit(&|s| s.lengths.stash = 0), 17);
@@ -148,31 +176,49 @@ fn a_list_altered_after_opening() {
 }
 
 #[test]
-fn sixty_four_stashes() {
-    // 64 one-block stashes of different bytes; the 65th is refused, freed room serves again.
-    let image: Vec<u8> = (0..70u8).flat_map(|k| [k; BLOCK]).collect();
-    let named: Vec<String> = (0..70).map(|k| hex(&digest(&image[k * BLOCK..][..BLOCK]))).collect();
-    let mut list = "3\n1\n64\n64\n".to_string();
-    for (k, name) in named.iter().enumerate().take(64) {
+fn the_most_stashes() {
+    // 256 one-block stashes of different bytes; one more is refused, freed room serves again.
+    let most = MOST_STASHES;
+    let block = |k: usize| [[k as u8; 4], [(k >> 8) as u8; 4]].concat().repeat(BLOCK / 8);
+    let image: Vec<u8> = (0..=most).flat_map(block).collect();
+    let named: Vec<String> = (0..=most).map(|k| hex(&digest(&block(k)))).collect();
+    let last = format!("stash {} 2,{most},{}\n", named[most], most + 1);
+    let header = format!("3\n1\n{most}\n{most}\n");
+    let mut list = header.clone();
+    for (k, name) in named.iter().enumerate().take(most) {
         list += &format!("stash {name} 2,{k},{}\n", k + 1);
     }
     for on in all() {
         let mut lent = Lent {
-            list: format!("{list}stash {} 2,64,65\n", named[64]).into_bytes(),
+            list: format!("{list}{last}").into_bytes(),
             image: image.clone(),
-            stash: vec![9; 64 * BLOCK],
+            stash: vec![9; most * BLOCK],
             work: vec![8; BLOCK],
             result: Vec::new(),
             patch: Vec::new(),
         };
-        assert_eq!(lent.open(on).refusal, Refusal { number: 14, line: 69 });
-        let swap = format!("{list}free {}\nstash {} 2,64,65\nmove {} 2,0,1 1 - {}:2,0,1\n", named[0], named[64], named[63], named[63]);
+        assert_eq!(lent.open(on).refusal, Refusal { number: 14, line: most + 5 });
+        // Line 4 has room for a stash of no blocks, and line 3 has none for it.
+        let nothing = hex(&digest(b""));
+        lent.list = format!("{list}stash {nothing} 2,0,0\n").into_bytes();
+        assert_eq!(lent.open(on).refusal, Refusal { number: 14, line: most + 5 });
+        // In a call the lines before run, and what they held stays.
+        let state = State { line: 5, at: header.len(), lengths: Lengths::of(&lent.list, lent.rooms()), ..State::ZERO };
+        let answer = lent.call(on, b"", state);
+        assert_eq!((said(&answer), answer.state.count), ((refused(14, most + 5), 0), most));
+        assert!(lent.stash[..] == image[..most * BLOCK]);
+        // Held already comes before no room, at either end of the table.
+        for k in [0, 63, 64, most - 1] {
+            lent.list = format!("{list}stash {} 2,0,1\n", named[k]).into_bytes();
+            assert_eq!(lent.open(on).refusal, Refusal { number: 13, line: most + 5 });
+        }
+        let swap = format!("{list}free {}\n{last}move {} 2,0,1 1 - {}:2,0,1\n", named[0], named[most - 1], named[most - 1]);
         lent.list = swap.into_bytes();
         let answer = lent.all(on, b"");
         assert_eq!(said(&answer), (Done, 0));
-        assert_eq!(answer.state.count, 64);
-        assert!(lent.stash.chunks(BLOCK).enumerate().all(|(k, block)| block[0] == k as u8 + 1));
-        assert_eq!(lent.image[0], 63);
+        assert_eq!(answer.state.count, most);
+        assert!(lent.stash[..] == image[BLOCK..]);
+        assert!(lent.image[..BLOCK] == block(most - 1));
     }
 }
 
@@ -217,8 +263,8 @@ fn a_header_altered_after_opening() {
         (other("3\n1", "3\n+"), 17),
         (other("1\n2\n2", "1\n0\n2"), 0),
         (other("1\n2\n2", "1\n \n2"), 17),
-        (other("1\n2\n2", "1\n65\n2"), 17),
-        (other("1\n2\n2", "1\n64\n2"), 0),
+        (other("1\n2\n2", "1\n257\n2"), 17),
+        (other("1\n2\n2", "1\n256\n2"), 0),
         (other("2\n2\n", "2\n3\n"), 0),
         (other("2\n2\n", "2\n4\n"), 17),
         (other("2\n2\n", "2\n1\n"), 0),
@@ -263,7 +309,8 @@ fn areas_and_a_list_that_no_longer_fit() {
         for other in [
             Rooms { image: BLOCK + 1, ..rooms },
             Rooms { stash: BLOCK - 1, ..rooms },
-            Rooms { work: 4_097 * BLOCK, ..rooms },
+            Rooms { work: (MOST_AREA + 1) * BLOCK, ..rooms },
+            Rooms { stash: (MOST_AREA + 1) * BLOCK, ..rooms },
             Rooms { result: BLOCK + 1, ..rooms },
             Rooms { result: 4_097 * BLOCK, ..rooms },
         ] {

@@ -47,31 +47,31 @@ pub struct Answer {
     pub taken: usize,
 }
 
-/// The layout that the library was compiled with. It changes together with the number in `muongrabi_abi_2`.
+/// The layout that the library was compiled with. It changes together with the number in `muongrabi_abi_3`.
 const _: () = {
     assert!(size_of::<usize>() == 8);
     assert!(size_of::<Refusal>() == 16);
     assert!(size_of::<Lengths>() == 48);
     assert!(offset_of!(State, hashes) == 0);
-    assert!(offset_of!(State, sizes) == 1_280);
-    assert!(offset_of!(State, count) == 1_792);
-    assert!(offset_of!(State, line) == 1_800);
-    assert!(offset_of!(State, at) == 1_808);
-    assert!(offset_of!(State, into) == 1_816);
-    assert!(offset_of!(State, refusal) == 1_824);
-    assert!(offset_of!(State, lengths) == 1_840);
-    assert!(size_of::<State>() == 1_888);
+    assert!(offset_of!(State, sizes) == 5_120);
+    assert!(offset_of!(State, count) == 7_168);
+    assert!(offset_of!(State, line) == 7_176);
+    assert!(offset_of!(State, at) == 7_184);
+    assert!(offset_of!(State, into) == 7_192);
+    assert!(offset_of!(State, refusal) == 7_200);
+    assert!(offset_of!(State, lengths) == 7_216);
+    assert!(size_of::<State>() == 7_264);
     assert!(offset_of!(Answer, state) == 0);
-    assert!(offset_of!(Answer, outcome) == 1_888);
-    assert!(offset_of!(Answer, number) == 1_896);
-    assert!(offset_of!(Answer, line) == 1_904);
-    assert!(offset_of!(Answer, taken) == 1_912);
-    assert!(size_of::<Answer>() == 1_920);
+    assert!(offset_of!(Answer, outcome) == 7_264);
+    assert!(offset_of!(Answer, number) == 7_272);
+    assert!(offset_of!(Answer, line) == 7_280);
+    assert!(offset_of!(Answer, taken) == 7_288);
+    assert!(size_of::<Answer>() == 7_296);
 };
 
 #[rustfmt::skip]
 extern "C" {
-    fn muongrabi_abi_2() -> usize;
+    fn muongrabi_abi_3() -> usize;
     fn muongrabi_digest(bytes: *const u8, bytes_length: usize, out: *mut u8);
     fn muongrabi_open(
         list: *const u8, list_length: usize,
@@ -103,7 +103,7 @@ extern "C" {
 /// Only an archive of this layout has a function of that name, so that no other one links, wherever the linker found it.
 fn ask_abi() {
     // SAFETY: it takes nothing and gives a number.
-    unsafe { muongrabi_abi_2() };
+    unsafe { muongrabi_abi_3() };
 }
 
 pub fn digest(bytes: &[u8]) -> [u8; 20] {

@@ -7,7 +7,7 @@ pub const BLOCK: usize = 4_096;
 pub const MOST_IMAGE: usize = 1_048_576;
 
 /// Blocks of the largest stash area, and of the largest work area.
-pub const MOST_AREA: usize = 4_096;
+pub const MOST_AREA: usize = 32_768;
 
 /// Blocks of the largest result area.
 pub const MOST_RESULT: usize = 4_096;
@@ -16,4 +16,4 @@ pub const MOST_RESULT: usize = 4_096;
 pub const MOST_LIST: usize = 4_194_304;
 
 /// Stashes held at once.
-pub const MOST_STASHES: usize = 64;
+pub const MOST_STASHES: usize = 256;

@@ -91,7 +91,7 @@ impl Refusal {
             Refusal::LIST_LENGTH => "the list is longer than 4194304 bytes",
             Refusal::HEADER_FORM => "a header line is missing, is no number from 0 to 4294967295 in plain digits, or has no line feed",
             Refusal::OTHER_VERSION => "the list's version is not 3",
-            Refusal::HEADER_LIMIT => "the list asks for more than 64 stashes, or for more blocks than the stash area has",
+            Refusal::HEADER_LIMIT => "the list asks for more than 256 stashes, or for more blocks than the stash area has",
             Refusal::LINE_FORM => "the line is not a command: its word is unknown, or its form is wrong",
             Refusal::UNSUPPORTED => "the command imgdiff is not supported",
             Refusal::PAST_IMAGE => "a range of the target or source ends past the image",

@@ -52,7 +52,7 @@ fn abi() {
         assert!(text.contains(&declared), "{declared}");
     }
     // The layout that goes with the number.
-    assert_eq!((number, size_asserted("state"), size_asserted("answer")), ("2", "1888", "1920"));
+    assert_eq!((number, size_asserted("state"), size_asserted("answer")), ("3", "7264", "7296"));
 }
 
 #[test]
@@ -148,7 +148,7 @@ fn each_text_is_of_its_number() {
         (Refusal::LIST_LENGTH, "list is longer"),
         (Refusal::HEADER_FORM, "header line"),
         (Refusal::OTHER_VERSION, "version"),
-        (Refusal::HEADER_LIMIT, "more than 64 stashes"),
+        (Refusal::HEADER_LIMIT, "more than 256 stashes"),
         (Refusal::LINE_FORM, "not a command"),
         (Refusal::UNSUPPORTED, "imgdiff"),
         (Refusal::PAST_IMAGE, "past the image"),

@@ -1,4 +1,4 @@
-//! The rules of document 01, with of document 02, written twice, apart from the proved code: [`plain`] in plain loops, [`model`]
+//! The rules of document 01, with of document 02, written twice, apart from the proved code: [`plain`] in plain loops, [`model`]
 //! slowly and by other means. The limits, the types and SHA-1 are all that the two share.
 
 #![forbid(unsafe_code)]
@@ -14,13 +14,13 @@ pub const BLOCK: usize = 4_096;
 /// Blocks of the largest image.
 pub const MOST_IMAGE: usize = 1_048_576;
 /// Blocks of the largest stash area, and of the largest work area.
-pub const MOST_AREA: usize = 4_096;
+pub const MOST_AREA: usize = 32_768;
 /// Blocks of the largest result area.
 pub const MOST_RESULT: usize = 4_096;
 /// Bytes of the longest list.
 pub const MOST_LIST: usize = 4_194_304;
 /// Stashes held at once.
-pub const MOST_STASHES: usize = 64;
+pub const MOST_STASHES: usize = 256;
 
 /// A SHA-1 digest.
 pub type Hash = [u8; 20];

@@ -10,7 +10,7 @@ use check::generate::Rng;
 use check::library::{library_state, outcome_of};
 use check::{hex, Implementation, Library, Plain};
 use muongrabi::{Areas, Lengths};
-use reference::{digest, plain, Hash, Outcome, Rooms, BLOCK, MOST_LIST, MOST_STASHES};
+use reference::{digest, plain, Hash, Outcome, Rooms, BLOCK, MOST_AREA, MOST_LIST, MOST_RESULT, MOST_STASHES};
 use std::hint::black_box;
 use std::time::Duration;
 
@@ -367,7 +367,7 @@ fn open_times<S: Side>(list: &[u8], lengths: Lengths, repeats: u32) -> Duration 
 fn openings<S: Side>() {
     let mut rng = Rng::new(4);
     let image = 524_288;
-    let areas = Lengths { image: image * BLOCK, stash: 4_096 * BLOCK, work: 4_096 * BLOCK, result: 4_096 * BLOCK, patch: 1 << 30 };
+    let areas = Lengths { image: image * BLOCK, stash: MOST_AREA * BLOCK, work: MOST_AREA * BLOCK, result: MOST_RESULT * BLOCK, patch: 1 << 30 };
     let name = |k: usize| hex(&digest(&k.to_le_bytes()));
 
     // What builders write: moves, some stashes with the moves that use them, erased and zeroed ranges.
@@ -432,16 +432,19 @@ fn openings<S: Side>() {
     let far = fill_list(1, 1, &one, |_| (2, format!("move {h} 2,0,2 2 2,0,1 4,0,1,4294967295,4294967295 {h}:4,1,2,4294967295,4294967295\n")));
     opening::<S>("empty ranges at 4294967295 in every L", &far, areas, 0);
 
-    let stashes: String = (0..64).map(|k| format!("stash {} 2,{k},{}\n", name(k), k + 1)).collect();
-    let parts: String = (0..64).map(|k| format!(" {}:2,{k},{}", name(63 - k), k + 1)).collect();
-    let all = fill_list(64, 64, &stashes, |_| (64, format!("move {h} 2,0,64 64 -{parts}\n")));
-    opening::<S>("64 stashes, every move naming all", &all, areas, 0);
-    let large = format!("stash {h} 2,0,4096\n");
-    let places = fill_list(1, 4_096, &large, |_| (4_096, format!("move {h} 2,0,4096 4096 - {h}:2,0,4096\n")));
-    opening::<S>("4,096 places in every line", &places, areas, 0);
-    let single: String = (0..4_096).map(|k| format!(",{k},{}", k + 1)).collect();
-    let ragged = fill_list(1, 4_096, &large, |_| (4_096, format!("move {h} 2,0,4096 4096 - {h}:8192{single}\n")));
-    opening::<S>("4,096 places, each a range of its own", &ragged, areas, 0);
+    let most = MOST_STASHES;
+    let stashes: String = (0..most).map(|k| format!("stash {} 2,{k},{}\n", name(k), k + 1)).collect();
+    let parts: String = (0..most).map(|k| format!(" {}:2,{k},{}", name(most - 1 - k), k + 1)).collect();
+    let all = fill_list(most, most, &stashes, |_| (most, format!("move {h} 2,0,{most} {most} -{parts}\n")));
+    opening::<S>(&format!("{most} stashes, every move naming all"), &all, areas, 0);
+    for (n, many) in [(4_096, "4,096"), (MOST_AREA, "32,768")] {
+        let large = format!("stash {h} 2,0,{n}\n");
+        let places = fill_list(1, n, &large, |_| (n, format!("move {h} 2,0,{n} {n} - {h}:2,0,{n}\n")));
+        opening::<S>(&format!("{many} places in every line"), &places, areas, 0);
+        let single: String = (0..n).map(|k| format!(",{k},{}", k + 1)).collect();
+        let ragged = fill_list(1, n, &large, |_| (n, format!("move {h} 2,0,{n} {n} - {h}:{}{single}\n", 2 * n)));
+        opening::<S>(&format!("{many} places, each a range of its own"), &ragged, areas, 0);
+    }
 }
 
 /// Calls that take nothing and write nothing, at a `new` that waits for its first byte: what a call costs by itself. The stashes are made by the

@@ -5,7 +5,7 @@ mod patch;
 mod read;
 mod sparse;
 
-use crate::{digest, Answer, Areas, Lengths, Outcome, Refusal, Rooms, State, BLOCK};
+use crate::{digest, Answer, Areas, Lengths, Outcome, Refusal, Rooms, State, BLOCK, MOST_STASHES};
 use read::{blocks, decode, past, rules, size, Command, Ranges, Rules, Source};
 pub use sparse::load_sparse;
 
@@ -121,7 +121,7 @@ fn impossible(list: &[u8], lengths: &Lengths, state: &State) -> bool {
     let Ok(rules) = rules(list, lengths) else { return true };
     let starts: Vec<usize> = std::iter::once(0).chain((0..list.len()).filter(|k| list[*k] == b'\n').map(|k| k + 1)).collect();
     let Some(before) = starts.iter().position(|start| *start == state.at) else { return true };
-    if *lengths != state.lengths || before < 4 || before + 1 != state.line || state.count > 64 {
+    if *lengths != state.lengths || before < 4 || before + 1 != state.line || state.count > MOST_STASHES {
         return true;
     }
     let held = stashes(state);

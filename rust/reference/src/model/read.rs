@@ -1,6 +1,6 @@
 //! Lines and the header split into their fields.
 
-use crate::{Lengths, Refusal, BLOCK};
+use crate::{Lengths, Refusal, BLOCK, MOST_AREA, MOST_IMAGE, MOST_LIST, MOST_RESULT, MOST_STASHES};
 
 pub(super) type Ranges = Vec<(u64, u64)>;
 
@@ -134,19 +134,19 @@ pub(super) struct Rules {
 /// 1 to 5.
 pub(super) fn rules(list: &[u8], lengths: &Lengths) -> Result<Rules, Refusal> {
     let block = BLOCK as u64;
-    for (bytes, most) in [(lengths.image, 1_048_576u64), (lengths.stash, 4_096), (lengths.work, 4_096), (lengths.result, 4_096)] {
-        if bytes as u64 % block != 0 || bytes as u64 > most * block {
+    for (bytes, most) in [(lengths.image, MOST_IMAGE), (lengths.stash, MOST_AREA), (lengths.work, MOST_AREA), (lengths.result, MOST_RESULT)] {
+        if bytes as u64 % block != 0 || bytes as u64 > most as u64 * block {
             return Err(Refusal { number: 1, line: 0 });
         }
     }
-    if list.len() > 4_194_304 {
+    if list.len() > MOST_LIST {
         return Err(Refusal { number: 2, line: 0 });
     }
     let (numbers, after) = header(list)?;
     if numbers[0] != 3 {
         return Err(Refusal { number: 4, line: 1 });
     }
-    if numbers[2] > 64 {
+    if numbers[2] > MOST_STASHES as u64 {
         return Err(Refusal { number: 5, line: 3 });
     }
     if numbers[3] * block > lengths.stash as u64 {

@@ -1,6 +1,6 @@
 //! Calls.
 
-use super::check::check;
+use super::check::{check, Marks};
 use super::command::{decode, Bsdiff, Command, Move};
 use super::text::Set;
 use super::{header, open, patch, Header};
@@ -61,10 +61,11 @@ fn possible(list: &[u8], lengths: &Lengths, state: &State) -> Option<Header> {
 
 fn run_lines(list: &[u8], header: &Header, areas: &mut Areas, piece: &[u8], mut state: State) -> Answer {
     let lengths = state.lengths;
+    let mut marks = Marks::new();
     let mut taken = 0;
     while state.at < list.len() {
         let outcome = match decode(list, state.at) {
-            Ok((command, next)) => match check(list, header, &lengths, &state, &command) {
+            Ok((command, next)) => match check(list, header, &lengths, &state, &mut marks, &command) {
                 Ok(()) => run_command(list, areas, piece, &mut state, &mut taken, &command).map(|going| (going, next)),
                 Err(number) => Err(number),
             },

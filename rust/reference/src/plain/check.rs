@@ -5,8 +5,17 @@ use super::text::Set;
 use super::Header;
 use crate::{Lengths, State, BLOCK, MOST_AREA};
 
+/// Which places of a source are taken. It is lent from line to line, and each line clears the part that it needs.
+pub(super) struct Marks([bool; MOST_AREA]);
+
+impl Marks {
+    pub(super) fn new() -> Marks {
+        Marks([false; MOST_AREA])
+    }
+}
+
 /// 8 to 14 and 18 for one command against what is held: the lowest that applies.
-pub(super) fn check(list: &[u8], header: &Header, lengths: &Lengths, held: &State, command: &Command) -> Result<(), usize> {
+pub(super) fn check(list: &[u8], header: &Header, lengths: &Lengths, held: &State, marks: &mut Marks, command: &Command) -> Result<(), usize> {
     let image = (lengths.image / BLOCK) as u64;
     let work = (lengths.work / BLOCK) as u64;
     match command {
@@ -34,9 +43,9 @@ pub(super) fn check(list: &[u8], header: &Header, lengths: &Lengths, held: &Stat
                 return Err(14);
             }
         }
-        Command::Move(line) => check_source(list, (image, work, u64::MAX), held, line, true)?,
+        Command::Move(line) => check_source(list, (image, work, u64::MAX), held, marks, line, true)?,
         Command::Bsdiff(Bsdiff { from, bytes, line, .. }) => {
-            check_source(list, (image, work, (lengths.result / BLOCK) as u64), held, line, false)?;
+            check_source(list, (image, work, (lengths.result / BLOCK) as u64), held, marks, line, false)?;
             if from + bytes > lengths.patch as u64 {
                 return Err(18);
             }
@@ -46,7 +55,7 @@ pub(super) fn check(list: &[u8], header: &Header, lengths: &Lengths, held: &Stat
 }
 
 /// 8 to 12 for blocks of image, work area and room for the target; whether that must have N blocks is the command's.
-fn check_source(list: &[u8], rooms: (u64, u64, u64), held: &State, line: &Move, target_is_n: bool) -> Result<(), usize> {
+fn check_source(list: &[u8], rooms: (u64, u64, u64), held: &State, marks: &mut Marks, line: &Move, target_is_n: bool) -> Result<(), usize> {
     let (image, work, room) = rooms;
     let source_blocks = line.source.map_or(0, |s| s.blocks);
     if line.target.end > image || line.source.map_or(0, |s| s.end) > image {
@@ -76,19 +85,20 @@ fn check_source(list: &[u8], rooms: (u64, u64, u64), held: &State, line: &Move, 
         return Ok(());
     }
     // The places are N by now, and N is within the work area.
-    let mut marks = [false; MOST_AREA];
+    let marks = &mut marks.0[..line.n as usize];
+    marks.fill(false);
     if let Some(set) = line.places {
-        mark(list, &set, line.n, &mut marks)?;
+        mark(list, &set, marks)?;
     }
     for (_, set) in line.parts(list) {
-        mark(list, &set, line.n, &mut marks)?;
+        mark(list, &set, marks)?;
     }
     Ok(())
 }
 
-fn mark(list: &[u8], set: &Set, n: u64, marks: &mut [bool; MOST_AREA]) -> Result<(), usize> {
+fn mark(list: &[u8], set: &Set, marks: &mut [bool]) -> Result<(), usize> {
     for place in set.each(list) {
-        if place as u64 >= n || marks[place] {
+        if place >= marks.len() || marks[place] {
             return Err(12);
         }
         marks[place] = true;

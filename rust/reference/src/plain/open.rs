@@ -1,6 +1,6 @@
 //! Opening.
 
-use super::check::check;
+use super::check::{check, Marks};
 use super::command::{decode, Bsdiff, Command, Move};
 use super::header;
 use crate::{Lengths, Refusal, Rooms, State};
@@ -17,6 +17,7 @@ pub fn open(list: &[u8], rooms: Rooms) -> State {
 fn opening(list: &[u8], lengths: &Lengths) -> Result<usize, Refusal> {
     let header = header(list, lengths)?;
     let mut held = State::ZERO;
+    let mut marks = Marks::new();
     // 64 bits: of a list of 4 MiB the sets have fewer than 2^20 ranges of fewer than 2^32 blocks.
     let mut total = 0u64;
     let mut at = header.after;
@@ -24,7 +25,7 @@ fn opening(list: &[u8], lengths: &Lengths) -> Result<usize, Refusal> {
     while at < list.len() {
         let refuse = |number| Refusal { number, line };
         let (command, next) = decode(list, at).map_err(refuse)?;
-        check(list, &header, lengths, &held, &command).map_err(refuse)?;
+        check(list, &header, lengths, &held, &mut marks, &command).map_err(refuse)?;
         match command {
             Command::New(target) | Command::Zero(target) => total += target.blocks,
             Command::Move(Move { target, .. }) | Command::Bsdiff(Bsdiff { line: Move { target, .. }, .. }) => total += target.blocks,

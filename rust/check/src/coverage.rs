@@ -1,10 +1,12 @@
 //! How often each thing occurred in a series of cases.
 
+mod limits;
 mod patch;
 mod sparse;
 
 use crate::generate::line_starts;
 use crate::hex;
+use limits::LIMITS;
 use patch::{Line, FAULTS, PATCHES};
 use reference::{digest, plain, Answer, Areas, Lengths, Outcome, Rooms, State, BLOCK, MOST_STASHES};
 pub use sparse::SparseCoverage;
@@ -47,7 +49,7 @@ pub const CAUSES: [&str; 14] = [
     "header limits, 5",
     "position",
     "line number",
-    "over 64 stashes",
+    "over 256 stashes",
     "one hash twice",
     "blocks held",
     "bytes into a new",
@@ -90,6 +92,8 @@ pub struct Coverage {
     pub digests: u64,
     pub lines: [u64; LINES.len()],
     pub kinds: [u64; KINDS.len()],
+    /// Openings and calls with many stashes and long sources.
+    pub limits: [u64; LIMITS.len()],
 }
 
 impl Coverage {
@@ -112,6 +116,7 @@ impl Coverage {
         let _ = writeln!(out, "19 for: {}", counted(&FAULTS, &self.faults));
         let _ = writeln!(out, "lines that ran: {}", counted(&LINES, &self.lines));
         let _ = writeln!(out, "of these: {}", counted(&KINDS, &self.kinds));
+        let _ = writeln!(out, "many and long: {}", counted(&LIMITS, &self.limits));
         let _ = writeln!(out, "patches that ran: {}", counted(&PATCHES, &self.patches));
         let _ = writeln!(out, "sequences held to the model {}, runs over cuts {}, digests {}", self.sequences, self.runs, self.digests);
         out
@@ -134,6 +139,7 @@ impl Coverage {
         CAUSES.iter().zip(self.causes).enumerate().filter(|(k, _)| *k != LONG_LIST).for_each(|(_, (name, n))| note(format!("17 by {name}"), n));
         LINES.iter().zip(self.lines).for_each(|(name, n)| note(name.to_string(), n));
         KINDS.iter().zip(self.kinds).for_each(|(name, n)| note(name.to_string(), n));
+        LIMITS.iter().zip(self.limits).for_each(|(name, n)| note(name.to_string(), n));
         for (name, n) in [
             ("done", self.done),
             ("more", self.more),
@@ -152,6 +158,7 @@ impl Coverage {
 
     pub fn open(&mut self, list: &[u8], rooms: Rooms, state: &State) {
         self.opened[state.refusal.number.min(19)] += 1;
+        add(&mut self.limits, &limits::opened(list, &Lengths::of(list, rooms), state));
         if state.refusal.number == 9 {
             let line = list.split_inclusive(|c| *c == b'\n').nth(state.refusal.line - 1).unwrap_or(b"");
             self.nines[nine(line, &Lengths::of(list, rooms))] += 1;
@@ -174,6 +181,7 @@ impl Coverage {
             self.numbers[refusal.number.min(20)] += 1;
         }
         let lengths = Lengths::of(list, areas.rooms());
+        add(&mut self.limits, &limits::called(list, before, answer));
         if answer.outcome.number() == 17 {
             self.causes[cause(list, &lengths, before)] += 1;
             return;
@@ -236,7 +244,7 @@ impl Coverage {
                     kinds[4] = source[0] != b"-" && meet(&sets[0], &sets[1]);
                     let patched = Line::of(line);
                     if let Some(of) = &patched {
-                        self.patches.iter_mut().zip(of.has(patch)).for_each(|(n, has)| *n += has as u64);
+                        add(&mut self.patches, &of.has(patch));
                     }
                     let form = match (source[0], source.len()) {
                         (_, 1) => 5,
@@ -249,9 +257,13 @@ impl Coverage {
             };
             kinds[5] = which != 3 && which != 4 && (1..sets[0].len()).any(|k| meet(&sets[0][..k], &sets[0][k..k + 1]));
             self.lines[which] += 1;
-            self.kinds.iter_mut().zip(kinds).for_each(|(n, is)| *n += is as u64);
+            add(&mut self.kinds, &kinds);
         }
     }
+}
+
+fn add(counts: &mut [u64], has: &[bool]) {
+    counts.iter_mut().zip(has).for_each(|(n, has)| *n += *has as u64);
 }
 
 fn counted(names: &[&str], counts: &[u64]) -> String {

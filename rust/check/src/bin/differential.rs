@@ -8,7 +8,7 @@ use check::compare::{Checker, Series, SparseChecker};
 use check::{Implementation, Library, Model};
 use std::time::{Instant, SystemTime, UNIX_EPOCH};
 
-/// So many cases have everything, whatever the seed: what is rarest occurs some fifteen times.
+/// So many cases have everything, whatever the seed: what is rarest occurs some ten times.
 const ENOUGH: u64 = 5_000;
 
 fn main() {

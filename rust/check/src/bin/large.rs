@@ -51,9 +51,9 @@ fn usage() -> ! {
 fn real(other: &dyn Implementation, seed: u64, commands: usize) -> Result<(), String> {
     let mut rng = Rng::new(seed);
     let mut blocks = Blocks::new();
-    let sizes = Sizes { image: 65_536, area: 4_096, commands, most: 4_096, bytes: 4_100_000, patch: 48 << 20 };
+    let sizes = Sizes { image: 65_536, area: MOST_AREA, commands, most: 8_192, bytes: 4_100_000, patch: 48 << 20, often: 30, stashes: 0 };
     let mut world = World::good(&mut rng, &mut blocks, &sizes);
-    (world.stash, world.work, world.result) = (4_096, 4_096, 4_096);
+    (world.stash, world.work, world.result) = (MOST_AREA, MOST_AREA, MOST_RESULT);
     let list = world.list();
     let data = blocks.lay(&world.data);
     println!(

@@ -2,7 +2,7 @@
 
 use super::{answer_text, Checker, Lent};
 use crate::generate::{damage, disturb, line_starts, other_header, Pieces, Rng, Sizes, World};
-use reference::{model, plain, Outcome, State, BLOCK};
+use reference::{model, plain, Outcome, State, BLOCK, MOST_STASHES};
 use std::iter::repeat;
 
 impl Checker<'_> {
@@ -16,9 +16,12 @@ impl Checker<'_> {
         if rng.one_in(40_000) {
             return self.longest(&mut rng);
         }
+        if rng.one_in(60) {
+            return self.large_openings(&mut rng);
+        }
         let sizes = any_sizes(&mut rng);
         let world = World::good(&mut rng, &mut self.blocks, &sizes);
-        let (list, patch) = any_list(&mut rng, &world);
+        let (list, patch) = any_list(&mut rng, &world, sizes.stashes);
         let mut lent = Lent {
             list,
             image: self.blocks.lay(&world.image),
@@ -50,6 +53,9 @@ impl Checker<'_> {
                 }
                 _ => return Ok(()),
             }
+        }
+        if sizes.stashes > 0 && state.refusal.number == 0 && rng.percent(95) {
+            past_stashes(&world, sizes.stashes, &mut lent, &mut state);
         }
         self.lend(&lent);
         let mut data = self.blocks.lay(&world.data);
@@ -217,8 +223,27 @@ fn alter(rng: &mut Rng, world: &World, lent: &mut Lent, state: &mut State) {
     }
 }
 
-/// Mostly a few blocks, now and then many.
+/// The state behind the first stashes, with their blocks where they would be: hashing them each time would take long.
+fn past_stashes(world: &World, count: usize, lent: &mut Lent, state: &mut State) {
+    let Some(at) = line_starts(&lent.list).get(4 + count).copied() else { return };
+    for (k, hash) in world.first_hashes(count).enumerate() {
+        state.hashes[20 * k..20 * k + 20].copy_from_slice(&hash);
+        state.sizes[k] = 1;
+    }
+    lent.stash[..count * BLOCK].copy_from_slice(&lent.image[..count * BLOCK]);
+    (state.count, state.at, state.line) = (count, at, 5 + count);
+}
+
+/// Mostly a few blocks, now and then many, or many stashes, or areas past 4,096 blocks.
 fn any_sizes(rng: &mut Rng) -> Sizes {
+    if rng.one_in(80) {
+        let stashes = rng.pick(&[MOST_STASHES, MOST_STASHES, MOST_STASHES, MOST_STASHES - 1, 65]);
+        return Sizes { stashes, ..Sizes::small(stashes + rng.below(20), stashes + rng.below(50), rng.between(2, 12)) };
+    }
+    if rng.one_in(50_000) {
+        let area = rng.between(4_097, 4_200);
+        return Sizes { most: area, often: 3, ..Sizes::small(rng.between(20, 60), area, rng.between(2, 5)) };
+    }
     match rng.below(400) {
         0 => Sizes::small(rng.between(20, 300), rng.between(8, 80), rng.between(20, 150)),
         1..=3 => Sizes::small(rng.between(8, 40), rng.between(40, 130), rng.between(60, 200)),
@@ -228,9 +253,16 @@ fn any_sizes(rng: &mut Rng) -> Sizes {
 }
 
 /// The world's list and patch data, in a third of all cases as they are, else spoiled.
-fn any_list(rng: &mut Rng, world: &World) -> (Vec<u8>, Vec<u8>) {
+fn any_list(rng: &mut Rng, world: &World, stashes: usize) -> (Vec<u8>, Vec<u8>) {
     let kind = rng.below(100);
     let mut world = world.clone();
+    if stashes > 0 && rng.percent(70) {
+        // Mostly one too many, else as it is.
+        if rng.percent(75) {
+            world.one_stash_too_many(rng);
+        }
+        return (world.list(), world.patch);
+    }
     if world.has_patch() && rng.one_in(3) {
         world.spoil_patch(rng);
         return (world.list(), world.patch);

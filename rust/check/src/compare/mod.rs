@@ -65,6 +65,7 @@ pub struct Checker<'a> {
     piece: Guarded,
     behind: bool,
     blocks: Blocks,
+    made_up: Blocks,
     log: Option<String>,
     coverage: Coverage,
 }
@@ -129,6 +130,7 @@ impl<'a> Checker<'a> {
             piece: room(),
             behind: true,
             blocks: Blocks::new(),
+            made_up: Blocks::made_up(),
             log: None,
             coverage: Coverage::default(),
         }

@@ -1,7 +1,7 @@
 //! Digests, lengths that no memory here has, and the longest lists.
 
 use super::{Checker, Lent};
-use crate::generate::Rng;
+use crate::generate::{Rng, Sizes, World};
 use crate::hex;
 use reference::{digest, Rooms, BLOCK, MOST_AREA, MOST_IMAGE, MOST_LIST, MOST_RESULT};
 
@@ -48,6 +48,8 @@ impl Checker<'_> {
                     most,
                     most + 1,
                     most + BLOCK,
+                    4_096 * BLOCK,
+                    4_097 * BLOCK,
                     usize::MAX,
                     usize::MAX - BLOCK + 1,
                     1 << 63,
@@ -69,6 +71,31 @@ impl Checker<'_> {
             long.resize(MOST_LIST + rng.below(3), b'\n');
             let odd = rng.below(5) / 4;
             self.open(&long, Rooms { image: lent.image.len() + odd, ..lent.rooms() })?;
+        }
+        Ok(())
+    }
+
+    /// Openings with areas past 4,096 blocks, a good list and spoiled ones: they take the lengths alone, so that nothing need be lent.
+    pub(super) fn large_openings(&mut self, rng: &mut Rng) -> Result<(), String> {
+        let any = rng.between(4_097, MOST_AREA);
+        let area = rng.pick(&[4_097, any, any, MOST_AREA - 1, MOST_AREA, MOST_AREA]);
+        let image = rng.between(area, 2 * area);
+        let sizes = Sizes { image, area, commands: rng.between(5, 12), most: area, often: 2, bytes: 1 << 20, patch: 0, stashes: 0 };
+        let world = World::good(rng, &mut self.made_up, &sizes);
+        let World { stash, work, result, .. } = world;
+        let rooms = Rooms { image: image * BLOCK, stash: stash * BLOCK, work: work * BLOCK, result: result * BLOCK, patch: world.patch.len() };
+        let state = self.open(&world.list(), rooms)?;
+        if state.refusal.number != 0 {
+            return Err(format!("a good list is refused: {:?}", state.refusal));
+        }
+        for _ in 0..3 {
+            let mut other = world.clone();
+            if rng.percent(75) {
+                other.misplace(rng);
+            } else {
+                other.spoil(rng);
+            }
+            self.open(&other.list(), rooms)?;
         }
         Ok(())
     }

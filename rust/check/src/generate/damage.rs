@@ -2,6 +2,7 @@
 
 use super::lines::{line_around, line_starts};
 use super::Rng;
+use reference::{MOST_AREA, MOST_STASHES};
 
 const LIKELY: &[u8] = b"0123456789abcdef ,:-\n\n01279 ,ABFGgz+.\t\r\0\xff/;`";
 
@@ -171,8 +172,8 @@ pub fn other_header(rng: &mut Rng, list: &mut Vec<u8>, stash: usize) {
         _ if rng.one_in(4) => rng.pick(&["", "03", "+3", "4294967296", "3 ", "3\r", "x"]).to_string(),
         0 => rng.pick(&["0", "1", "2", "4", "33", "4294967295"]).to_string(),
         1 => rng.pick(&["0", "1", "7", "4294967295"]).to_string(),
-        2 => rng.pick(&["0", "1", "63", "64", "65", "66", "4294967295"]).to_string(),
-        _ => rng.pick(&[0, 1, stash.saturating_sub(1), stash, stash + 1, stash + 1, 4_097]).to_string(),
+        2 => rng.pick(&[0, 1, 64, 65, MOST_STASHES - 1, MOST_STASHES, MOST_STASHES + 1, MOST_STASHES + 2, 4_294_967_295]).to_string(),
+        _ => rng.pick(&[0, 1, stash.saturating_sub(1), stash, stash + 1, stash + 1, 4_097, MOST_AREA + 1]).to_string(),
     };
     list.splice(*start..*next - 1, text.into_bytes());
 }

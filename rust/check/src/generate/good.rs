@@ -4,7 +4,7 @@ use super::command::{Command, Source};
 use super::patch::differ;
 use super::sets::{any_set, blocks_of, place_set, Set};
 use super::{Blocks, Rng, Sizes, World};
-use reference::{Hash, MOST_STASHES};
+use reference::{Hash, MOST_RESULT, MOST_STASHES};
 
 /// What a good list does, followed block by block while it is made.
 struct Follow {
@@ -30,16 +30,17 @@ impl Follow {
 
     /// How many blocks a command gets, within its room.
     fn some(&self, rng: &mut Rng, room: usize) -> usize {
-        let Sizes { most, .. } = self.sizes;
-        let most = if most <= 4 || rng.one_in(30) { most } else { most / 64 };
+        let Sizes { most, often, .. } = self.sizes;
+        let most = if often == 1 || rng.one_in(often) { most } else { most / 64 };
         rng.between(0, room.min(most))
     }
 
-    /// Some of the held stashes, which together fit the work area; one may come twice.
+    /// Some of the held stashes, now and then many, which together fit the work area; one may come twice.
     fn some_held(&self, rng: &mut Rng, work: usize) -> Vec<usize> {
         let mut chosen = Vec::new();
         let mut blocks = 0;
-        for _ in 0..rng.between(1, 3) {
+        let wanted = if self.held.len() > 20 && rng.one_in(20) { self.held.len() } else { 3 };
+        for _ in 0..rng.between(1, wanted) {
             if self.held.is_empty() {
                 break;
             }
@@ -58,28 +59,41 @@ impl World {
     /// A list that opens, and on its data runs to its end.
     pub fn good(rng: &mut Rng, blocks: &mut Blocks, sizes: &Sizes) -> World {
         let letters = rng.pick(&[3, 6, 12, 200]);
-        let image: Vec<u8> = (0..sizes.image).map(|_| rng.between(0, letters) as u8).collect();
+        let mut image: Vec<u8> = (0..sizes.image).map(|_| rng.between(0, letters) as u8).collect();
+        if sizes.stashes > 0 {
+            // Each of them of another block.
+            let mut all: Vec<u8> = (0..=255).collect();
+            rng.shuffle(&mut all);
+            image[..sizes.stashes].copy_from_slice(&all[..sizes.stashes]);
+        }
+        let most_result = sizes.area.min(MOST_RESULT);
         let mut world = World {
             image: image.clone(),
             stash: sizes.area,
             work: sizes.area,
-            result: sizes.area,
+            result: most_result,
             header: [3, 0, 0, 0],
             commands: Vec::new(),
             data: Vec::new(),
             patch: Vec::new(),
         };
         if rng.percent(30) {
-            world.work = rng.between(0, sizes.area);
+            world.work = rng.between(sizes.stashes.min(1), sizes.area);
         }
         if rng.percent(30) {
-            world.stash = rng.between(0, sizes.area);
+            world.stash = rng.between(sizes.stashes, sizes.area);
         }
         if rng.percent(30) {
-            world.result = rng.between(0, sizes.area);
+            world.result = rng.between(0, most_result);
         }
         let mut follow = Follow { image, held: Vec::new(), sizes: *sizes };
-        let mut most = (0, 0);
+        for block in 0..sizes.stashes {
+            let ids = vec![follow.image[block]];
+            let hash = blocks.digest(&ids);
+            follow.held.push((hash, ids));
+            world.commands.push(Command::Stash { hash, source: vec![(block as u32, block as u32 + 1)] });
+        }
+        let mut most = (sizes.stashes, sizes.stashes);
         let mut bytes = 40;
         let stash_weight = rng.pick(&[1, 4, 8]);
         for _ in 0..sizes.commands {
@@ -106,7 +120,7 @@ impl World {
         }
         world.header = [3, world.total(), most.0 as u64, most.1 as u64];
         if rng.percent(30) {
-            world.header[2] = rng.pick(&[most.0 as u64 + 1, 64]).min(64);
+            world.header[2] = rng.pick(&[most.0 as u64 + 1, 64, MOST_STASHES as u64]).clamp(most.0 as u64, MOST_STASHES as u64);
             world.header[3] = world.stash as u64;
         }
         world
@@ -154,7 +168,7 @@ impl World {
         let k = if bound == 0 { 0 } else { follow.some(rng, self.result) };
         let target = any_set(rng, k, bound);
         let ids: Vec<u8> = (0..k).map(|j| if rng.percent(30) { *whole.get(j).unwrap_or(&7) } else { rng.between(0, letters) as u8 }).collect();
-        let records = differ(rng, &blocks.lay(&whole), &blocks.lay(&ids));
+        let records = if blocks.is_made_up() { Vec::new() } else { differ(rng, &blocks.lay(&whole), &blocks.lay(&ids)) };
         // Sometimes bytes lie between two patches that belong to none.
         for _ in 0..rng.pick(&[0, 0, 1, 7]) {
             self.patch.push(rng.next_u64() as u8);
@@ -232,9 +246,15 @@ fn good_free(rng: &mut Rng, follow: &mut Follow) -> Option<Command> {
 fn any_order(rng: &mut Rng, n: usize) -> Vec<usize> {
     let mut order: Vec<usize> = (0..n).collect();
     match rng.below(4) {
+        // Of many, rows are shuffled and not each: a range for each would fill the list.
+        0 if n > 4_096 => {
+            let mut rows: Vec<&[usize]> = order.chunks(n / 50).collect();
+            rng.shuffle(&mut rows);
+            order = rows.concat();
+        }
         0 => rng.shuffle(&mut order),
         1 => order.rotate_left(rng.below(n)),
-        2 => order.reverse(),
+        2 if n <= 4_096 => order.reverse(),
         _ => {}
     }
     order

@@ -1,6 +1,7 @@
 //! Range sets.
 
 use super::Rng;
+use reference::MOST_AREA;
 
 /// The pairs of a range set, as written.
 pub type Set = Vec<(u32, u32)>;
@@ -22,8 +23,10 @@ pub(super) fn any_set(rng: &mut Rng, mut k: usize, bound: usize) -> Set {
     }
     let whole = rng.percent(50);
     let ragged = k > 16 && rng.percent(50);
+    // Long sets have longer ranges, so that a line does not fill the list.
+    let short = if k > 4_096 { k / 100 } else { 3 };
     while k > 0 {
-        let longest = if ragged { k.min(bound).min(3) } else { k.min(bound) };
+        let longest = if ragged { k.min(bound).min(short) } else { k.min(bound) };
         let length = if whole && !ragged { longest } else { rng.between(1, longest) };
         let start = rng.between(0, bound - length);
         set.push((start as u32, (start + length) as u32));
@@ -49,7 +52,7 @@ pub(super) fn place_set(rng: &mut Rng, places: &[usize]) -> Set {
             _ => set.push((p, p + 1)),
         }
         if rng.one_in(30) {
-            let x = rng.pick(&[0, p, 4_096, 4_294_967_295]);
+            let x = rng.pick(&[0, p, 4_096, MOST_AREA as u32, 4_294_967_295]);
             set.push((x, x));
         }
     }

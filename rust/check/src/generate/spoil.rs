@@ -3,6 +3,7 @@
 use super::command::{Command, Source};
 use super::sets::any_set;
 use super::{patch, Rng, World};
+use reference::{MOST_AREA, MOST_STASHES};
 
 #[derive(Clone, Copy)]
 enum Fault {
@@ -107,10 +108,14 @@ impl World {
         match fault {
             Fault::Version => self.header[0] = rng.pick(&[0, 1, 2, 4, 33, 4_294_967_295]),
             Fault::Total => self.other_total(rng),
-            Fault::MostStashes => self.header[2] = rng.pick(&[stashes.saturating_sub(1), 0, 63, 64, 65, 66, 4_294_967_295]),
+            Fault::MostStashes => {
+                let most = MOST_STASHES as u64;
+                self.header[2] = rng.pick(&[stashes.saturating_sub(1), 0, 64, 65, most - 1, most, most + 1, most + 2, 4_294_967_295]);
+            }
             Fault::MostBlocks => {
                 let area = self.stash as u64;
-                self.header[3] = rng.pick(&[blocks.saturating_sub(1), 0, area, area + 1, 4_096, 4_097, 4_294_967_295]);
+                self.header[3] =
+                    rng.pick(&[blocks.saturating_sub(1), 0, area, area + 1, 4_097, MOST_AREA as u64, MOST_AREA as u64 + 1, 4_294_967_295]);
             }
             Fault::PastImage => self.past_image(rng, at),
             Fault::Length => self.other_length(rng, self.seek(at, has_source)),
@@ -259,6 +264,26 @@ impl World {
             }
             _ => set[k] = (0, 4_294_967_295),
         }
+    }
+
+    /// Places taken twice, or at N and above, mostly in the line that has the most of them.
+    pub fn misplace(&mut self, rng: &mut Rng) {
+        let mut at = self.seek(rng.below(self.commands.len()), spreads_stashes);
+        if rng.percent(75) {
+            let spread = (0..self.commands.len()).filter(|k| spreads_stashes(&self.commands[*k]));
+            at = spread.max_by_key(|k| self.commands[*k].source().map(|(_, n)| n)).unwrap_or(at);
+        }
+        self.other_places(rng, at);
+    }
+
+    /// One stash more than line 3 has, where line 4 has room: right behind the first ones, or later.
+    pub fn one_stash_too_many(&mut self, rng: &mut Rng) {
+        let first = self.commands.iter().take_while(|command| matches!(command, Command::Stash { .. })).count();
+        let at = if rng.percent(70) { first } else { rng.between(first, self.commands.len()) };
+        self.header[2] = (first as u64).max(self.header[2]);
+        self.header[3] = self.stash as u64;
+        let source = vec![(0, if self.stash > first { rng.below(2) as u32 } else { 0 })];
+        self.commands.insert(at, Command::Stash { hash: [0xcd; 20], source });
     }
 
     /// Places taken twice, or at N and above.

@@ -2,13 +2,16 @@
 
 use super::lines::line_starts;
 use super::Rng;
-use reference::{Hash, Refusal, State, BLOCK};
+use reference::{Hash, Refusal, State, BLOCK, MOST_AREA, MOST_STASHES};
 
 /// Changes one thing in a state: at a border, at random, or so that it is another possible state.
 pub fn disturb(rng: &mut Rng, state: &mut State, list: &[u8]) {
     let starts = line_starts(list);
-    match rng.below(23) {
-        0 => state.count = rng.pick(&[0, 1, 2, 63, 64, 65, 66, usize::MAX, state.count.wrapping_add(1), state.count.wrapping_sub(1)]),
+    match rng.below(24) {
+        0 => {
+            let near = rng.pick(&[state.count, 64, MOST_STASHES, MOST_STASHES]);
+            state.count = rng.pick(&[0, 1, 2, usize::MAX, near, near.wrapping_add(1), near.wrapping_add(1), near.wrapping_sub(1)]);
+        }
         1 => {
             let near = rng.pick(&[state.at, list.len(), starts.get(4).copied().unwrap_or(0)]);
             state.at = border(rng, near);
@@ -41,18 +44,18 @@ pub fn disturb(rng: &mut Rng, state: &mut State, list: &[u8]) {
             state.into = rng.pick(&[1, BLOCK - 1, BLOCK, BLOCK + 1, 2 * BLOCK - 1, 2 * BLOCK, 3 * BLOCK - 1, 3 * BLOCK, usize::MAX]);
         }
         10 => {
-            let k = rng.below(64.min(state.count.max(1)));
-            state.sizes[k] = rng.pick(&[0, 1, 2, 6, 4_096, 4_097, 1 << 52, 1 << 63, usize::MAX]);
+            let k = rng.below(MOST_STASHES.min(state.count.max(1)));
+            state.sizes[k] = rng.pick(&[0, 1, 2, 6, 4_097, MOST_AREA, MOST_AREA + 1, 1 << 52, 1 << 63, usize::MAX]);
         }
         11 => {
             // Sizes whose sum passes 64 bits.
-            state.count = state.count.clamp(2, 64);
+            state.count = state.count.clamp(2, MOST_STASHES);
             set_hash(state, 0, &[1; 20]);
             state.sizes[0] = usize::MAX;
             state.sizes[1] = rng.pick(&[1, 2, usize::MAX, 3]);
         }
         12 => {
-            let k = rng.below(1_280);
+            let k = rng.below(20 * MOST_STASHES);
             state.hashes[k] ^= 1 << rng.below(8);
         }
         13 => {
@@ -61,12 +64,12 @@ pub fn disturb(rng: &mut Rng, state: &mut State, list: &[u8]) {
             let hash: Hash = std::array::from_fn(|k| state.hashes[20 * from + k]);
             set_hash(state, to, &hash);
             if rng.percent(70) {
-                state.count = state.count.clamp(from.max(to) + 1, 64);
+                state.count = state.count.clamp(from.max(to) + 1, MOST_STASHES);
             }
         }
         14..=16 => {
             // One stash more, often one that the text names.
-            if state.count < 64 {
+            if state.count < MOST_STASHES {
                 let hash = named_hash(rng, list).unwrap_or([7; 20]);
                 let k = state.count;
                 set_hash(state, k, &hash);
@@ -92,20 +95,27 @@ pub fn disturb(rng: &mut Rng, state: &mut State, list: &[u8]) {
             let number = rng.pick(&[0, 1, 6, 15, 16, 17, 18, 19, 20, 99, usize::MAX]);
             state.refusal = Refusal { number, line: rng.pick(&[0, 1, 5, 77, usize::MAX]) };
         }
-        19 => {
+        19 | 23 => {
             // As many stashes as may be, of no blocks.
-            let count = rng.pick(&[64, 63, 65, 2, 3, 5]);
-            for k in 0..count.min(64) {
+            let count = rng.pick(&[MOST_STASHES, MOST_STASHES, MOST_STASHES - 1, MOST_STASHES + 1, MOST_STASHES + 1, 65, 3]);
+            let last = count.min(MOST_STASHES) - 1;
+            for k in 0..=last {
                 let mut hash = [0xe0; 20];
                 hash[19] = k as u8;
                 set_hash(state, k, &hash);
                 state.sizes[k] = 0;
             }
             state.count = count;
+            // And one hash twice: at both ends, or in the last two places.
+            if rng.one_in(3) {
+                let from = rng.pick(&[0, 1, last - 1]);
+                let hash: Hash = std::array::from_fn(|k| state.hashes[20 * from + k]);
+                set_hash(state, last, &hash);
+            }
         }
         20 => {
             // A size less or more, with its total still small.
-            let k = rng.below(state.count.clamp(1, 64));
+            let k = rng.below(state.count.clamp(1, MOST_STASHES));
             state.sizes[k] = rng.below(4);
         }
         21 => everything(rng, state),
@@ -120,7 +130,7 @@ fn everything(rng: &mut Rng, state: &mut State) {
     for size in state.sizes.iter_mut() {
         *size = rng.next_u64() as usize >> rng.below(64);
     }
-    state.count = border(rng, 64);
+    state.count = border(rng, MOST_STASHES);
     state.line = border(rng, state.line);
     state.at = border(rng, state.at);
     state.into = border(rng, state.into);

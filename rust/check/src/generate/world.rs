@@ -1,6 +1,7 @@
 //! A list with all that it needs.
 
 use super::command::Command;
+use reference::Hash;
 
 /// A list with the image it runs on, the new data it takes, the patch data it names and the areas it needs. Blocks are named by their bytes'
 /// number.
@@ -16,7 +17,8 @@ pub struct World {
     pub patch: Vec<u8>,
 }
 
-/// How large a world may be: blocks of the image and of an area, commands, blocks of one command, bytes of the list and of the patch data.
+/// How large a world may be: blocks of the image and of an area, commands, blocks of one command, bytes of the list and of the patch data. One
+/// command in `often` may have its most blocks, the others a part of that. So many `stashes` of a block are made before all else.
 #[derive(Clone, Copy)]
 pub struct Sizes {
     pub image: usize,
@@ -25,11 +27,13 @@ pub struct Sizes {
     pub most: usize,
     pub bytes: usize,
     pub patch: usize,
+    pub often: usize,
+    pub stashes: usize,
 }
 
 impl Sizes {
     pub fn small(image: usize, area: usize, commands: usize) -> Sizes {
-        Sizes { image, area, commands, most: 4, bytes: usize::MAX, patch: 1 << 20 }
+        Sizes { image, area, commands, most: 4, bytes: usize::MAX, patch: 1 << 20, often: 1, stashes: 0 }
     }
 }
 
@@ -42,6 +46,11 @@ impl World {
     /// What line 2 must be: the targets of `new`, `zero`, `move` and `bsdiff`.
     pub fn total(&self) -> u64 {
         self.targets(|command| matches!(command, Command::New(_) | Command::Zero(_) | Command::Move { .. } | Command::Bsdiff { .. }))
+    }
+
+    /// The hashes of the first stashes, which stand before all else.
+    pub fn first_hashes(&self, count: usize) -> impl Iterator<Item = Hash> + '_ {
+        self.commands[..count].iter().filter_map(|command| if let Command::Stash { hash, .. } = command { Some(*hash) } else { None })
     }
 
     /// The list's text.

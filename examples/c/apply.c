@@ -2,8 +2,9 @@
  * Applies an update: apply LIST IMAGE NEW [PATCH]
  *
  * LIST is the transfer list, IMAGE the image that is updated in its place, NEW the new data, read in pieces, so it may be larger than
- * memory, and PATCH the patch data, where the list has `bsdiff` lines. The image is written back after a run, refused or not; a refused opening leaves it alone. Prints `done T`, `more T` (T: bytes of
- * new data taken) or `refused: ` and why. Exit status: 0 done, 1 more or refused, 2 for a file that cannot be read or written.
+ * memory, and PATCH the patch data, where the list has `bsdiff` lines. The image is written back after a run, refused or not; a refused opening
+ * leaves it alone. The areas are as large as the list needs them. Prints `done T`, `more T` (T: bytes of new data taken) or `refused: ` and why.
+ * Exit status: 0 done, 1 more or refused, 2 for a file that cannot be read or written.
  */
 #include <stdio.h>
 #include <stdlib.h>
@@ -50,6 +51,32 @@ static int refused(size_t number, size_t line)
     return 1;
 }
 
+static muongrabi_state opened(const uint8_t *list, const muongrabi_lengths *lengths)
+{
+    return muongrabi_open(list, lengths->list, lengths->image, lengths->stash, lengths->work, lengths->result, lengths->patch);
+}
+
+/* Makes one of the lengths the least with which the list still opens. An opening takes lengths alone, so nothing is lent yet. */
+static void fit(const uint8_t *list, muongrabi_lengths *lengths, size_t *area)
+{
+    size_t low = 0, high = *area / MUONGRABI_BLOCK;
+    while (low < high) {
+        size_t middle = low + (high - low) / 2;
+        *area = middle * MUONGRABI_BLOCK;
+        if (opened(list, lengths).refusal.number == 0) high = middle;
+        else low = middle + 1;
+    }
+    *area = high * MUONGRABI_BLOCK;
+}
+
+/* An area; of no bytes it may be null. */
+static uint8_t *new_area(size_t length)
+{
+    uint8_t *area = calloc(1, length);
+    if (!area && length != 0) fail("areas");
+    return area;
+}
+
 int main(int argc, char **argv)
 {
     if (argc != 4 && argc != 5) {
@@ -57,55 +84,56 @@ int main(int argc, char **argv)
         return 2;
     }
     FILE *list_file = open_file(argv[1], "rb"), *image_file = open_file(argv[2], "r+b"), *data = open_file(argv[3], "rb");
-    size_t list_length, image_length, patch_length = 0;
-    uint8_t *list = read_file(list_file, argv[1], &list_length);
-    uint8_t *image = read_file(image_file, argv[2], &image_length);
+    /* The largest areas at first, so that no list is refused for want of room. */
+    muongrabi_lengths lengths = {.stash = MUONGRABI_MOST_AREA * MUONGRABI_BLOCK, .work = MUONGRABI_MOST_AREA * MUONGRABI_BLOCK,
+                                 .result = MUONGRABI_MOST_RESULT * MUONGRABI_BLOCK};
+    uint8_t *list = read_file(list_file, argv[1], &lengths.list);
+    uint8_t *image = read_file(image_file, argv[2], &lengths.image);
     uint8_t *patch = NULL;
     if (argc == 5) {
         FILE *patch_file = open_file(argv[4], "rb");
-        patch = read_file(patch_file, argv[4], &patch_length);
+        patch = read_file(patch_file, argv[4], &lengths.patch);
         fclose(patch_file);
     }
 
-    /* The largest areas, so that no list is refused for want of room. */
-    size_t area_length = MUONGRABI_MOST_AREA * MUONGRABI_BLOCK, result_length = MUONGRABI_MOST_RESULT * MUONGRABI_BLOCK;
-    uint8_t *stash = calloc(1, area_length);
-    uint8_t *work = calloc(1, area_length);
-    uint8_t *result = calloc(1, result_length);
-    if (!stash || !work || !result) fail("areas");
-
     int status;
-    muongrabi_state state = muongrabi_open(list, list_length, image_length, area_length, area_length, result_length, patch_length);
+    muongrabi_state state = opened(list, &lengths);
     if (state.refusal.number != 0) {
         status = refused(state.refusal.number, state.refusal.line);
     } else {
+        fit(list, &lengths, &lengths.stash);
+        fit(list, &lengths, &lengths.work);
+        fit(list, &lengths, &lengths.result);
+        uint8_t *stash = new_area(lengths.stash), *work = new_area(lengths.work), *result = new_area(lengths.result);
+        state = opened(list, &lengths);
+
         static uint8_t piece[1 << 16];
         size_t taken = 0, got;
         muongrabi_answer answer;
         do {
             got = fread(piece, 1, sizeof piece, data);
-            answer = muongrabi_call(list, list_length, image, image_length, stash, area_length, work, area_length,
-                                    result, result_length, patch, patch_length, piece, got, state);
+            answer = muongrabi_call(list, lengths.list, image, lengths.image, stash, lengths.stash, work, lengths.work,
+                                    result, lengths.result, patch, lengths.patch, piece, got, state);
             state = answer.state;
             taken += answer.taken;
         } while (answer.outcome == MUONGRABI_MORE && got == sizeof piece);
         if (ferror(data)) fail(argv[3]);
 
         rewind(image_file);
-        if (fwrite(image, 1, image_length, image_file) != image_length || fflush(image_file) != 0) fail(argv[2]);
+        if (fwrite(image, 1, lengths.image, image_file) != lengths.image || fflush(image_file) != 0) fail(argv[2]);
         if (answer.outcome == MUONGRABI_REFUSED) {
             status = refused(answer.number, answer.line);
         } else {
             printf("%s %zu\n", answer.outcome == MUONGRABI_DONE ? "done" : "more", taken);
             status = answer.outcome == MUONGRABI_DONE ? 0 : 1;
         }
+        free(stash);
+        free(work);
+        free(result);
     }
 
     free(list);
     free(image);
-    free(stash);
-    free(work);
-    free(result);
     free(patch);
     fclose(list_file);
     fclose(data);

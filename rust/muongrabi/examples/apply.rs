@@ -1,10 +1,11 @@
 //! Applies an update: apply LIST IMAGE NEW [PATCH]
 //!
 //! LIST is the transfer list, IMAGE the image that is updated in its place, NEW the new data, read in pieces, so it may be larger than
-//! memory, and PATCH the patch data, where the list has `bsdiff` lines. The image is written back after a run, refused or not; a refused opening leaves it alone. Prints `done T`, `more T` (T: bytes of
-//! new data taken) or `refused: ` and why. Exit status: 0 done, 1 more or refused, 2 for a file that cannot be read or written.
+//! memory, and PATCH the patch data, where the list has `bsdiff` lines. The image is written back after a run, refused or not; a refused opening
+//! leaves it alone. The areas are as large as the list needs them. Prints `done T`, `more T` (T: bytes of new data taken) or `refused: ` and why.
+//! Exit status: 0 done, 1 more or refused, 2 for a file that cannot be read or written.
 
-use muongrabi::{Areas, Outcome, Refusal, Updater, BLOCK, MOST_AREA, MOST_RESULT};
+use muongrabi::{open, Areas, Lengths, Outcome, Refusal, Updater, BLOCK, MOST_AREA, MOST_RESULT};
 use std::fs::{self, File, OpenOptions};
 use std::io::{self, Read, Write};
 use std::process::ExitCode;
@@ -14,6 +15,20 @@ fn named<T>(name: &str, result: io::Result<T>) -> Result<T, String> {
     result.map_err(|error| format!("{name}: {error}"))
 }
 
+/// The fewest blocks with which the list opens; with `most` it does. An opening takes lengths alone, so nothing is lent yet.
+fn least(most: usize, opens: impl Fn(usize) -> bool) -> usize {
+    let (mut low, mut high) = (0, most);
+    while low < high {
+        let middle = low + (high - low) / 2;
+        if opens(middle) {
+            high = middle;
+        } else {
+            low = middle + 1;
+        }
+    }
+    high
+}
+
 /// How the run ended, and the bytes it took. A refused opening is the inner error.
 fn apply(list: &str, image: &str, new: &str, patch: Option<&str>) -> Result<Result<(Outcome, u64), Refusal>, String> {
     let text = named(list, fs::read(list))?;
@@ -21,10 +36,15 @@ fn apply(list: &str, image: &str, new: &str, patch: Option<&str>) -> Result<Resu
     let mut file = named(image, OpenOptions::new().write(true).open(image))?;
     let mut data = named(new, File::open(new))?;
     let patch = patch.map_or(Ok(Vec::new()), |name| named(name, fs::read(name)))?;
-    // The largest areas, so that no list is refused for want of room.
-    let mut stash = vec![0; MOST_AREA * BLOCK];
-    let mut work = vec![0; MOST_AREA * BLOCK];
-    let mut result = vec![0; MOST_RESULT * BLOCK];
+    // The largest areas at first, so that no list is refused for want of room.
+    let (area, most) = (MOST_AREA * BLOCK, MOST_RESULT * BLOCK);
+    let largest = Lengths { image: bytes.len(), stash: area, work: area, result: most, patch: patch.len() };
+    if let Err(refusal) = open(&text, largest) {
+        return Ok(Err(refusal));
+    }
+    let mut stash = vec![0; BLOCK * least(MOST_AREA, |n| open(&text, Lengths { stash: n * BLOCK, ..largest }).is_ok())];
+    let mut work = vec![0; BLOCK * least(MOST_AREA, |n| open(&text, Lengths { work: n * BLOCK, ..largest }).is_ok())];
+    let mut result = vec![0; BLOCK * least(MOST_RESULT, |n| open(&text, Lengths { result: n * BLOCK, ..largest }).is_ok())];
 
     let areas = Areas { image: &mut bytes, stash: &mut stash, work: &mut work, result: &mut result, patch: &patch };
     let mut updater = match Updater::open(&text, areas) {

@@ -1,13 +1,13 @@
 //! Real sizes: an image of 65,536 blocks, thousands of commands, stashes of thousands of blocks and a list of several MiB,
 //! the library compared with the plain implementation after every call; then positions at the far end of the largest image and of patch data
-//! past 32 bits, patches of the largest areas, and sparse files over large images.
+//! past 32 bits, as many stashes and blocks of a source as there may be, patches of the largest areas, and sparse files over large images.
 //! usage: large [--seed S] [--commands N] [--self]   (--self takes the slow model in the library's place)
 
 use check::generate::patch::{patch_of, Record};
 use check::generate::sparse::{Chunk, SparseFile, DONT_CARE, FILL, RAW};
 use check::generate::{Blocks, Rng, Sizes, World};
 use check::{hex, Implementation, Library, Model, Plain};
-use reference::{digest, plain, Answer, Areas, Outcome, Rooms, State, BLOCK, MOST_AREA, MOST_IMAGE, MOST_RESULT};
+use reference::{digest, plain, Answer, Areas, Outcome, Rooms, State, BLOCK, MOST_AREA, MOST_IMAGE, MOST_RESULT, MOST_STASHES};
 use std::time::{Duration, Instant};
 
 fn main() {
@@ -28,6 +28,8 @@ fn main() {
     println!("seed {seed}");
     let results = [
         real(other, seed, commands),
+        most_stashes(other),
+        largest_stash(other),
         far_end(other, !itself),
         largest_patch(other),
         patch_far_end(other, !itself),
@@ -160,9 +162,127 @@ fn far_end(other: &dyn Implementation, fast: bool) -> Result<(), String> {
     Ok(())
 }
 
-/// A patch of one stretch over the largest work and result areas, one of records of a byte, and one of a result that is a byte too long.
+/// What stands in the areas after a run.
+struct Stands {
+    image: Vec<u8>,
+    stash: Vec<u8>,
+    work: Vec<u8>,
+    result: Vec<u8>,
+}
+
+/// Runs a list over this image and the largest areas, on both. The answers are the same, and what stands after them is what is expected.
+fn over_largest(other: &dyn Implementation, name: &str, list: &str, image: &[u8], patch: &[u8], expected: &Stands) -> Result<State, String> {
+    let mut answers = Vec::new();
+    for on in [&Plain, other] {
+        let mut after = Stands {
+            image: image.to_vec(),
+            stash: vec![1; MOST_AREA * BLOCK],
+            work: vec![2; MOST_AREA * BLOCK],
+            result: vec![3; MOST_RESULT * BLOCK],
+        };
+        let Stands { image, stash, work, result } = &mut after;
+        let answer = on.run(list.as_bytes(), Areas { image, stash, work, result, patch }, b"", &[]);
+        let same = [after.image == expected.image, after.stash == expected.stash, after.work == expected.work, after.result == expected.result];
+        if answer.outcome != Outcome::Done || same.contains(&false) {
+            return Err(format!("{name}: {}; image, stash, work, result as they should be: {same:?}", said(&answer)));
+        }
+        answers.push(answer);
+    }
+    if answers[0] != answers[1] {
+        return Err(format!("{name}: {} and {}", said(&answers[0]), said(&answers[1])));
+    }
+    Ok(answers[0].state)
+}
+
+/// An image twice as large as an area, no two blocks of which are the same.
+fn twice_an_area() -> Vec<u8> {
+    (0..(2 * MOST_AREA * BLOCK / 8) as u64).flat_map(|k| (k * 0x9e37_79b9_7f4a_7c15).to_le_bytes()).collect()
+}
+
+/// 256 stashes fill the largest stash area; a move of as many blocks takes every second row of its source from one of them and the others from the
+/// image, over its own source; the oldest is freed, and held again as the youngest.
+fn most_stashes(other: &dyn Implementation) -> Result<(), String> {
+    let n = MOST_AREA / MOST_STASHES;
+    let image = twice_an_area();
+    let row = |k: usize| &image[k * n * BLOCK..(k + 1) * n * BLOCK];
+    let names: Vec<String> = (0..MOST_STASHES).map(|k| hex(&digest(row(k)))).collect();
+    let stash = |k: usize| format!("stash {} 2,{},{}\n", names[k], k * n, (k + 1) * n);
+    let stashes: String = (0..MOST_STASHES).map(stash).collect();
+    let (half, from, to) = (MOST_STASHES / 2, MOST_STASHES + 60, MOST_STASHES);
+    let whole: Vec<u8> = (0..half).flat_map(|j| [row(MOST_STASHES - 1 - j), row(from + j)].concat()).collect();
+    let odd: String = (0..half).map(|j| format!(",{},{}", (2 * j + 1) * n, (2 * j + 2) * n)).collect();
+    let parts: String = (0..half).map(|j| format!(" {}:2,{},{}", names[MOST_STASHES - 1 - j], 2 * j * n, (2 * j + 1) * n)).collect();
+    let source = format!("2,{},{} {}{odd}{parts}", from * n, (from + half) * n, 2 * half);
+    let moved = format!("move {} 2,{},{} {MOST_AREA} {source}\n", hex(&digest(&whole)), to * n, 2 * to * n);
+    let header = format!("3\n{MOST_AREA}\n{MOST_STASHES}\n{MOST_AREA}\n");
+    let list = format!("{header}{stashes}{moved}free {}\n{}", names[0], stash(0));
+
+    let area = MOST_AREA * BLOCK;
+    let expected = Stands {
+        image: [&image[..area], &whole].concat(),
+        stash: [&image[n * BLOCK..area], row(0)].concat(),
+        work: [row(0), &whole[n * BLOCK..]].concat(),
+        result: vec![3; MOST_RESULT * BLOCK],
+    };
+    let start = Instant::now();
+    let state = over_largest(other, "the most stashes", &list, &image, b"", &expected)?;
+    if state.count != MOST_STASHES || state.sizes.iter().any(|blocks| *blocks != n) {
+        return Err(format!("the most stashes: {} held", state.count));
+    }
+    // One more, though of no blocks.
+    let more = format!("{list}stash {} 2,0,0\n", hex(&digest(b"")));
+    let rooms = Rooms { image: image.len(), stash: area, work: area, ..Rooms::default() };
+    for on in [&Plain, other] {
+        let refusal = on.open(more.as_bytes(), rooms).refusal;
+        if (refusal.number, refusal.line) != (14, MOST_STASHES + 8) {
+            return Err(format!("a stash more than the most: {refusal:?}"));
+        }
+    }
+    println!("256 stashes of 128 blocks each, and a move of 32,768 blocks of half of them and of the image; {:.2} s", start.elapsed().as_secs_f64());
+    Ok(())
+}
+
+/// One stash of the largest area, moved back one block further, and patched: of its last blocks a result of the largest result area is made.
+fn largest_stash(other: &dyn Implementation) -> Result<(), String> {
+    let image = twice_an_area();
+    let (area, most) = (MOST_AREA * BLOCK, MOST_RESULT * BLOCK);
+    let held = hex(&digest(&image[..area]));
+    let turned = [&image[area - BLOCK..area], &image[..area - BLOCK]].concat();
+    let target: Vec<u8> = turned[area - most..].iter().map(|byte| byte.wrapping_add(1)).collect();
+    let far = Record { add: Vec::new(), extra: Vec::new(), seek: (area - most) as i64 };
+    let patch = patch_of(&[far, Record { add: vec![1; most], extra: Vec::new(), seek: 0 }]);
+    let source = format!("{MOST_AREA} - {held}:4,1,{MOST_AREA},0,1\n");
+    let stash = format!("stash {held} 2,0,{MOST_AREA}\n");
+    let moved = format!("move {} 2,{MOST_AREA},{} {source}", hex(&digest(&turned)), 2 * MOST_AREA);
+    let patched = |target_blocks: usize| {
+        let hashes = format!("{} {}", hex(&digest(&turned)), hex(&digest(&target)));
+        format!("bsdiff 0 {} {hashes} 2,7,{} {source}", patch.len(), 7 + target_blocks)
+    };
+    let list = format!("3\n{}\n1\n{MOST_AREA}\n{stash}{moved}{}free {held}\n", MOST_AREA + MOST_RESULT, patched(MOST_RESULT));
+    let mut after = [&image[..area], &turned[..]].concat();
+    after[7 * BLOCK..7 * BLOCK + most].copy_from_slice(&target);
+    let expected = Stands { image: after, stash: image[..area].to_vec(), work: turned.clone(), result: target.clone() };
+    let start = Instant::now();
+    let state = over_largest(other, "the largest stash", &list, &image, &patch, &expected)?;
+    if state.count != 0 {
+        return Err(format!("the largest stash: {} held", state.count));
+    }
+    // A target of one block more than any result area.
+    let more = format!("3\n{}\n1\n{MOST_AREA}\n{stash}{}", MOST_RESULT + 1, patched(MOST_RESULT + 1));
+    let rooms = Rooms { image: image.len(), stash: area, work: area, result: most, patch: patch.len() };
+    for on in [&Plain, other] {
+        let refusal = on.open(more.as_bytes(), rooms).refusal;
+        if (refusal.number, refusal.line) != (9, 6) {
+            return Err(format!("a target of 4,097 blocks: {refusal:?}"));
+        }
+    }
+    println!("a stash of 32,768 blocks, moved, and patched to 4,096; {:.2} s", start.elapsed().as_secs_f64());
+    Ok(())
+}
+
+/// A patch of one stretch over the largest result area and as large a source, one of records of a byte, and one of a result that is a byte too long.
 fn largest_patch(other: &dyn Implementation) -> Result<(), String> {
-    let (work, result) = (MOST_AREA * BLOCK, MOST_RESULT * BLOCK);
+    let (work, result) = (MOST_RESULT * BLOCK, MOST_RESULT * BLOCK);
     let image: Vec<u8> = (0..work).map(|k| (k % 253) as u8).collect();
     let target: Vec<u8> = (0..result).map(|k| (k * 7 % 255) as u8).collect();
     let add: Vec<u8> = target.iter().zip(&image).map(|(new, old)| new.wrapping_sub(*old)).collect();

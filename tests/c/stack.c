@@ -15,7 +15,7 @@
 
 #define BLOCK MUONGRABI_BLOCK
 #define MOST MUONGRABI_MOST_STASHES
-#define STACK ((size_t)160 << 10)   /* bytes of a thread's whole stack */
+#define STACK ((size_t)80 << 10)   /* bytes of a thread's whole stack */
 #define PAINT 0xa7
 
 static int passed, failed;

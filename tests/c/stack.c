@@ -103,6 +103,11 @@ static void run_list(void)
                            result, sizeof result, patch, sizeof patch, data, sizeof data, cuts, 3);
 }
 
+static int finished(void)
+{
+    return answer.outcome == MUONGRABI_DONE && answer.taken == sizeof data && answer.state.count == MOST - 1;
+}
+
 static void hash_bytes(void)
 {
     uint8_t out[20];
@@ -156,9 +161,9 @@ int main(void)
     make_list();
     for (size_t k = 0; k < sizeof data; k++) data[k] = (uint8_t)k;
     check(taken("opening", open_list) > 0 && state.refusal.number == 0, "an opening");
-    check(taken("call", call_list) > 0 && answer.outcome == MUONGRABI_DONE && answer.taken == sizeof data && answer.state.count == MOST - 1, "a call");
+    check(taken("call", call_list) > 0 && finished(), "a call");
     for (size_t k = 0; k < sizeof image; k++) image[k] = (uint8_t)(k / BLOCK + k % 251);
-    check(taken("run", run_list) > 0 && answer.outcome == MUONGRABI_DONE && answer.taken == sizeof data && answer.state.count == MOST - 1, "a run");
+    check(taken("run", run_list) > 0 && finished(), "a run");
     check(taken("digest", hash_bytes) > 0, "a digest");
     check(taken("sparse file", load_file) > 0, "a sparse file's stack");
     printf("%d passed, %d failed\n", passed, failed);

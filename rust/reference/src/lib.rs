@@ -1,5 +1,5 @@
-//! The rules of document 01, with of document 02, written twice, apart from the proved code: [`plain`] in plain loops, [`model`]
-//! slowly and by other means. The limits, the types and SHA-1 are all that the two share.
+//! The rules of document 01, with of document 02, written twice, apart from the proved code: [`plain`] in plain loops,
+//! [`model`] slowly and by other means. The limits, the types and SHA-1 are all that the two share.
 
 #![forbid(unsafe_code)]
 

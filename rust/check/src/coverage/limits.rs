@@ -7,7 +7,7 @@ use reference::{Answer, Lengths, State, BLOCK, MOST_STASHES};
 const MANY: usize = 64;
 const LONG: u64 = 4_096;
 
-/// Of openings the last six and the fourth, of calls the first six.
+/// The fourth and the last five are of openings, the others of calls.
 pub const LIMITS: [&str; 11] = [
     "over 64 stashes held",
     "256 stashes held",

@@ -55,6 +55,9 @@ pub const CAUSES: [&str; 14] = [
     "bytes into a new",
 ];
 
+/// One hash twice.
+const TWICE: usize = 11;
+
 /// The cause that takes a list of over 4 MiB: too slow for every run, and tried by a test of its own.
 const LONG_LIST: usize = 4;
 
@@ -181,9 +184,10 @@ impl Coverage {
             self.numbers[refusal.number.min(20)] += 1;
         }
         let lengths = Lengths::of(list, areas.rooms());
-        add(&mut self.limits, &limits::called(list, before, answer));
-        if answer.outcome.number() == 17 {
-            self.causes[cause(list, &lengths, before)] += 1;
+        let impossible = (answer.outcome.number() == 17).then(|| cause(list, &lengths, before));
+        add(&mut self.limits, &limits::called(list, before, answer, impossible == Some(TWICE)));
+        if let Some(cause) = impossible {
+            self.causes[cause] += 1;
             return;
         }
         let line = list[answer.state.at..].split_inclusive(|c| *c == b'\n').next().unwrap_or(b"");
@@ -352,7 +356,7 @@ fn cause(list: &[u8], lengths: &Lengths, state: &State) -> usize {
     names.sort();
     names.dedup();
     if names.len() < state.count {
-        return 11;
+        return TWICE;
     }
     let total: u128 = state.sizes[..state.count].iter().map(|size| *size as u128).sum();
     if total > header.blocks as u128 {

@@ -1,7 +1,7 @@
 //! One seeded case: a list, good or spoiled, opened and called.
 
 use super::{answer_text, Checker, Lent};
-use crate::generate::{damage, disturb, line_starts, other_header, Pieces, Rng, Sizes, World};
+use crate::generate::{damage, disturb, line_starts, other_header, same_at_the_ends, Pieces, Rng, Sizes, World};
 use reference::{model, plain, Outcome, State, BLOCK, MOST_STASHES};
 use std::iter::repeat;
 
@@ -56,6 +56,9 @@ impl Checker<'_> {
         }
         if sizes.stashes > 0 && state.refusal.number == 0 && rng.percent(95) {
             past_stashes(&world, sizes.stashes, &mut lent, &mut state);
+            if rng.percent(25) {
+                same_at_the_ends(&mut rng, &mut state);
+            }
         }
         self.lend(&lent);
         let mut data = self.blocks.lay(&world.data);

@@ -55,14 +55,19 @@ pub(super) fn opened(list: &[u8], lengths: &Lengths, state: &State) -> [bool; LI
     has
 }
 
-/// What a call had of these.
-pub(super) fn called(list: &[u8], before: &State, answer: &Answer) -> [bool; LIMITS.len()] {
+/// Two of the hashes that are the same stand far from one another, and none near.
+fn far_apart(state: &State) -> bool {
+    let hash = |k: usize| &state.hashes[20 * k..20 * k + 20];
+    let same = (0..state.count).flat_map(|k| (0..k).map(move |j| (j, k))).filter(|(j, k)| hash(*j) == hash(*k));
+    same.map(|(j, k)| k - j).min() > Some(MANY)
+}
+
+/// What a call had of these; whether it was refused with 17 for one hash twice.
+pub(super) fn called(list: &[u8], before: &State, answer: &Answer, twice: bool) -> [bool; LIMITS.len()] {
     let mut has = [false; LIMITS.len()];
     let (count, number) = (answer.state.count, answer.outcome.number());
     if number == 17 {
-        let count = before.count.min(MOST_STASHES);
-        let hash = |k: usize| &before.hashes[20 * k..20 * k + 20];
-        has[5] = (MANY + 1..count).any(|k| (0..k - MANY).any(|j| hash(j) == hash(k)));
+        has[5] = twice && far_apart(before);
         return has;
     }
     has[0] = count > MANY;

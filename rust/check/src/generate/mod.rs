@@ -19,5 +19,5 @@ pub use damage::{damage, other_header};
 pub use lines::line_starts;
 pub use pieces::Pieces;
 pub use rng::Rng;
-pub use states::disturb;
+pub use states::{disturb, same_at_the_ends};
 pub use world::{Sizes, World};

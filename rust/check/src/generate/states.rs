@@ -106,11 +106,8 @@ pub fn disturb(rng: &mut Rng, state: &mut State, list: &[u8]) {
                 state.sizes[k] = 0;
             }
             state.count = count;
-            // And one hash twice: at both ends, or in the last two places.
-            if rng.one_in(3) {
-                let from = rng.pick(&[0, 1, last - 1]);
-                let hash: Hash = std::array::from_fn(|k| state.hashes[20 * from + k]);
-                set_hash(state, last, &hash);
+            if rng.percent(50) {
+                same_at_the_ends(rng, state);
             }
         }
         20 => {
@@ -121,6 +118,14 @@ pub fn disturb(rng: &mut Rng, state: &mut State, list: &[u8]) {
         21 => everything(rng, state),
         _ => state.refusal.line = rng.pick(&[1, 5, usize::MAX]),
     }
+}
+
+/// One hash twice: at both ends of what is held, or in its last two places.
+pub fn same_at_the_ends(rng: &mut Rng, state: &mut State) {
+    let last = state.count.clamp(2, MOST_STASHES) - 1;
+    let from = rng.pick(&[0, 0, 1, last - 1]);
+    let hash: Hash = std::array::from_fn(|k| state.hashes[20 * from + k]);
+    set_hash(state, last, &hash);
 }
 
 fn everything(rng: &mut Rng, state: &mut State) {

@@ -4,14 +4,13 @@
  *
  * For C99 and C++98, and later ones. Link with libmuongrabi.a: `pkg-config --cflags --libs muongrabi` after `./install PREFIX`, or
  * target/staticlib/libmuongrabi.a as it is built. The archive is for x86-64 Linux, and not yet for AArch64; it wants memcpy, memmove and
- * memset of the C library, some 32 KiB of stack, and nothing else. Nothing is allocated, no file is opened and no state is kept inside:
- * everything a function works on is lent by the caller, and what must be remembered between calls is the state it gives back.
+ * memset of the C library, some 52 KiB of stack (a call 8), and nothing else. Nothing is allocated, no file is opened and no state is kept inside:
+ * everything a function works on is lent by the caller, and what must be remembered between calls is the caller's state.
  *
  *     muongrabi_state state = muongrabi_open(list, list_length, image_length, stash_length, work_length, result_length, patch_length);
  *     while (there is new data, or once with none) {
  *         muongrabi_answer answer = muongrabi_call(list, list_length, image, image_length, stash, stash_length, work, work_length,
- *                                                  result, result_length, patch, patch_length, piece, piece_length, state);
- *         state = answer.state;
+ *                                                  result, result_length, patch, patch_length, piece, piece_length, &state);
  *         if (answer.outcome != MUONGRABI_MORE) break;
  *     }
  *
@@ -20,9 +19,9 @@
  * A first image that comes as a sparse file: muongrabi_sparse_load(file, file_length, image, image_length), which gives 0 or a refusal number.
  *
  * For all functions: a pointer with length n names n readable bytes, writable ones for image, stash, work and result; cuts names n readable
- * numbers; out names 20 writable bytes and is not null. A null pointer elsewhere names no bytes and no numbers, whatever n is given with
- * it. What is written (image, stash, work, result, out) overlaps nothing else that the same call is lent. Every value of every byte, number
- * and state field is allowed and gets an answer.
+ * numbers; state names a state and out 20 writable bytes, and these two are not null. A null pointer elsewhere names no bytes and no numbers,
+ * whatever n is given with it. What is written (image, stash, work, result, state, out) overlaps nothing else that the same call is lent. Every
+ * value of every byte, number and state field is allowed and gets an answer.
  */
 #ifndef MUONGRABI_H
 #define MUONGRABI_H
@@ -39,7 +38,7 @@ extern "C" {
 #endif
 
 #define MUONGRABI_VERSION "0.5.0"
-#define MUONGRABI_ABI 3   /* another number whenever the layout of a struct or the parameters of a function below change */
+#define MUONGRABI_ABI 3   /* another number whenever what the archive exports changes: the layout of a struct or the parameters of a function */
 
 /* Limits, 64 bits wide, so that blocks times bytes do not wrap. */
 #define MUONGRABI_BLOCK 4096ul          /* bytes of a block */
@@ -58,8 +57,8 @@ extern "C" {
  * Refusal numbers. The line given with one is that line of the list, counted from 1, where nothing else is said.
  *
  * An opening gives 1 to 15 and 18, and looks at no block and at no patch. A call gives 6 to 14 and 16 to 19, and repeats the refusal that
- * its state holds. On the list that was opened, with the states given back and areas and patch data of the same lengths, it gives 16 and
- * 19 only. Loading a sparse file gives 30 to 36, which have no line, and nothing else does.
+ * its state holds. On the list that was opened, with the state as each call left it and areas and patch data of the same lengths, it gives 16
+ * and 19 only. Loading a sparse file gives 30 to 36, which have no line, and nothing else does.
  */
 enum muongrabi_refusal_number {
     MUONGRABI_REFUSAL_AREA_SIZE = 1,         /* image, stash, work or result area not whole blocks, or over its limit; line 0 */
@@ -168,14 +167,36 @@ typedef struct muongrabi_state {
     muongrabi_lengths lengths;
 } muongrabi_state;
 
-/* What a call gives back. */
+/* What a call answers. */
 typedef struct muongrabi_answer {
-    muongrabi_state state;   /* for the next call */
-    size_t outcome;          /* MUONGRABI_DONE, MUONGRABI_MORE or MUONGRABI_REFUSED */
-    size_t number;           /* of the refusal, else 0 */
-    size_t line;             /* of the refusal, else 0 */
-    size_t taken;            /* bytes of the piece that were used */
+    size_t outcome;   /* MUONGRABI_DONE, MUONGRABI_MORE or MUONGRABI_REFUSED */
+    size_t number;    /* of the refusal, else 0 */
+    size_t line;      /* of the refusal, else 0 */
+    size_t taken;     /* bytes of the piece that were used */
 } muongrabi_answer;
+
+/*
+ * What the archive exports. Call it by the functions below, which have the same names: the exports want pointers that are not null even
+ * where they read nothing through them, and take a state in parts, its two tables where they lie and the rest by value.
+ */
+
+/* What a state has behind its tables, in the same order. */
+typedef struct muongrabi_progress {
+    size_t count;
+    size_t line;
+    size_t at;
+    size_t into;
+    muongrabi_refusal refusal;
+    muongrabi_lengths lengths;
+} muongrabi_progress;
+
+typedef struct muongrabi_export_answer {
+    muongrabi_progress progress;
+    size_t outcome;
+    size_t number;
+    size_t line;
+    size_t taken;
+} muongrabi_export_answer;
 
 /* The layout that the archive was compiled with. It changes together with MUONGRABI_ABI. */
 #if defined(__cplusplus) && __cplusplus >= 201103L
@@ -196,76 +217,52 @@ MUONGRABI_LAYOUT(state_into, offsetof(muongrabi_state, into) == 7192);
 MUONGRABI_LAYOUT(state_refusal, offsetof(muongrabi_state, refusal) == 7200);
 MUONGRABI_LAYOUT(state_lengths, offsetof(muongrabi_state, lengths) == 7216);
 MUONGRABI_LAYOUT(state, sizeof(muongrabi_state) == 7264);
-MUONGRABI_LAYOUT(answer_outcome, offsetof(muongrabi_answer, outcome) == 7264);
-MUONGRABI_LAYOUT(answer_number, offsetof(muongrabi_answer, number) == 7272);
-MUONGRABI_LAYOUT(answer_line, offsetof(muongrabi_answer, line) == 7280);
-MUONGRABI_LAYOUT(answer_taken, offsetof(muongrabi_answer, taken) == 7288);
-MUONGRABI_LAYOUT(answer, sizeof(muongrabi_answer) == 7296);
+MUONGRABI_LAYOUT(progress_line, offsetof(muongrabi_progress, line) == 8);
+MUONGRABI_LAYOUT(progress_at, offsetof(muongrabi_progress, at) == 16);
+MUONGRABI_LAYOUT(progress_into, offsetof(muongrabi_progress, into) == 24);
+MUONGRABI_LAYOUT(progress_refusal, offsetof(muongrabi_progress, refusal) == 32);
+MUONGRABI_LAYOUT(progress_lengths, offsetof(muongrabi_progress, lengths) == 48);
+MUONGRABI_LAYOUT(progress, sizeof(muongrabi_progress) == 96);
+MUONGRABI_LAYOUT(answer_outcome, offsetof(muongrabi_export_answer, outcome) == 96);
+MUONGRABI_LAYOUT(answer_number, offsetof(muongrabi_export_answer, number) == 104);
+MUONGRABI_LAYOUT(answer_line, offsetof(muongrabi_export_answer, line) == 112);
+MUONGRABI_LAYOUT(answer_taken, offsetof(muongrabi_export_answer, taken) == 120);
+MUONGRABI_LAYOUT(answer, sizeof(muongrabi_export_answer) == 128);
 #undef MUONGRABI_LAYOUT
 
 /* MUONGRABI_ABI as the archive has it. The name has the number too: what was compiled with a header of another ABI does not link. */
 size_t muongrabi_abi_3(void);
 
-/* Writes the SHA-1 digest of the bytes to out. */
 void muongrabi_digest(const uint8_t *bytes, size_t bytes_length, uint8_t out[20]);
 
-/*
- * Checks the whole list for areas and patch data of these lengths in bytes. Nothing but the list is read, and nothing is written. In the
- * state given back, refusal.number is 0 when the list is accepted; otherwise it holds the refusal and all else is 0.
- */
 muongrabi_state muongrabi_open(const uint8_t *list, size_t list_length, size_t image_length, size_t stash_length, size_t work_length,
                                size_t result_length, size_t patch_length);
 
-/*
- * Runs the list from where the state stands until it needs a byte that the piece does not have, the list is finished, or a line is
- * refused. A refusal other than 17 is held in the state given back, and every later call repeats it. With 17 the state comes back as
- * it was, and nothing is taken or changed. A refused line changes nothing itself, with two exceptions: where a hash differs (16) or a patch
- * is malformed (19) the work area has the source, and where it is the hash of a patch's result, the result area has the result. Nothing
- * rests on what the opening found: state and lengths are looked at (17), and each line is read and checked again (6 to 14, 18) before it
- * runs, so that a line altered since then is refused where it stands. Line 2 is the opening's alone (15).
- *
- * A `bsdiff` puts its source together in the work area, and what the patch makes of it in the result area; only where both have their
- * hashes is the result written to the image. A patch is bsdiff's control triples and bytes unpacked, not a file that bsdiff wrote: records to
- * its end, each the two bytes 0x43 0x50; add length, extra length and seek, eight bytes each as bsdiff has them (lowest first, the top bit of
- * the last one the sign); the bytes to add to the source's; the extra bytes.
- */
-muongrabi_answer muongrabi_call(const uint8_t *list, size_t list_length,
-                                uint8_t *image, size_t image_length,
-                                uint8_t *stash, size_t stash_length,
-                                uint8_t *work, size_t work_length,
-                                uint8_t *result, size_t result_length,
-                                const uint8_t *patch, size_t patch_length,
-                                const uint8_t *piece, size_t piece_length,
-                                muongrabi_state state);
+muongrabi_export_answer muongrabi_call(const uint8_t *list, size_t list_length,
+                                       uint8_t *image, size_t image_length,
+                                       uint8_t *stash, size_t stash_length,
+                                       uint8_t *work, size_t work_length,
+                                       uint8_t *result, size_t result_length,
+                                       const uint8_t *patch, size_t patch_length,
+                                       const uint8_t *piece, size_t piece_length,
+                                       uint8_t hashes[20 * MUONGRABI_MOST_STASHES], size_t sizes[MUONGRABI_MOST_STASHES],
+                                       muongrabi_progress progress);
 
-/*
- * Opens the list, then calls with pieces of data, whose lengths are the cuts_length numbers of cuts, cut short where data ends, and
- * once more with all that is left. The answer is the last call's, its taken the sum over all calls. A refused opening is answered with
- * MUONGRABI_REFUSED, its number and line, and taken 0; nothing is changed then.
- */
-muongrabi_answer muongrabi_run(const uint8_t *list, size_t list_length,
-                               uint8_t *image, size_t image_length,
-                               uint8_t *stash, size_t stash_length,
-                               uint8_t *work, size_t work_length,
-                               uint8_t *result, size_t result_length,
-                               const uint8_t *patch, size_t patch_length,
-                               const uint8_t *data, size_t data_length,
-                               const size_t *cuts, size_t cuts_length);
+/* The tables are only written. */
+muongrabi_export_answer muongrabi_run(const uint8_t *list, size_t list_length,
+                                      uint8_t *image, size_t image_length,
+                                      uint8_t *stash, size_t stash_length,
+                                      uint8_t *work, size_t work_length,
+                                      uint8_t *result, size_t result_length,
+                                      const uint8_t *patch, size_t patch_length,
+                                      const uint8_t *data, size_t data_length,
+                                      const size_t *cuts, size_t cuts_length,
+                                      uint8_t hashes[20 * MUONGRABI_MOST_STASHES], size_t sizes[MUONGRABI_MOST_STASHES]);
 
-/*
- * Loads a sparse file into the image, which has as many blocks as the file's header says (a number of 32 bits, little-endian, at its byte 16):
- * a raw chunk's blocks get the bytes it carries, a fill's blocks its four bytes over and over, and don't-care blocks keep what the image has.
- * Gives 0, or 30 to 36: that of the header, else the earliest faulty chunk's lowest (a 0xCAC4 chunk is always 35), else that of the end. The
- * whole file is checked before the first byte is written, so a file that is refused leaves the image as it was. Minor version, checksum
- * field and reserved bytes are not looked at.
- */
 uint32_t muongrabi_sparse_load(const uint8_t *file, size_t file_length, uint8_t *image, size_t image_length);
 
-/*
- * Null pointers. The exports want a pointer that is not null even where they read nothing through it. So each name above stands, from here
- * on, for an inline function that lends no bytes where it is given null. All but the digest's name muongrabi_abi_3 too. Who calls the exports
- * from another language passes pointers that are not null.
- */
+/* What lies between: no bytes for null, and a state taken apart and put together. */
+
 static inline const uint8_t *muongrabi_lent_bytes(const uint8_t *bytes)
 {
     static const uint8_t none = 0;
@@ -289,11 +286,50 @@ static inline size_t muongrabi_lent_length(const void *lent, size_t length)
     return lent ? length : 0;
 }
 
+static inline muongrabi_progress muongrabi_progress_of(const muongrabi_state *state)
+{
+    muongrabi_progress progress;
+    progress.count = state->count;
+    progress.line = state->line;
+    progress.at = state->at;
+    progress.into = state->into;
+    progress.refusal = state->refusal;
+    progress.lengths = state->lengths;
+    return progress;
+}
+
+/* The tables are in their place already. */
+static inline muongrabi_answer muongrabi_answered(const muongrabi_export_answer *from, muongrabi_state *state)
+{
+    muongrabi_answer answer;
+    state->count = from->progress.count;
+    state->line = from->progress.line;
+    state->at = from->progress.at;
+    state->into = from->progress.into;
+    state->refusal = from->progress.refusal;
+    state->lengths = from->progress.lengths;
+    answer.outcome = from->outcome;
+    answer.number = from->number;
+    answer.line = from->line;
+    answer.taken = from->taken;
+    return answer;
+}
+
+/*
+ * The functions to call. Each is called by its name without `_lent`, which stands for it from the end of this header on: muongrabi_digest,
+ * muongrabi_open, muongrabi_call, muongrabi_run and muongrabi_sparse_load. All but the digest's name muongrabi_abi_3 too.
+ */
+
+/* Writes the SHA-1 digest of the bytes to out. */
 static inline void muongrabi_digest_lent(const uint8_t *bytes, size_t bytes_length, uint8_t out[20])
 {
     muongrabi_digest(muongrabi_lent_bytes(bytes), muongrabi_lent_length(bytes, bytes_length), out);
 }
 
+/*
+ * Checks the whole list for areas and patch data of these lengths in bytes. Nothing but the list is read, and nothing is written. In the
+ * state given back, refusal.number is 0 when the list is accepted; otherwise it holds the refusal and all else is 0.
+ */
 static inline muongrabi_state muongrabi_open_lent(const uint8_t *list, size_t list_length,
                                                   size_t image_length, size_t stash_length, size_t work_length,
                                                   size_t result_length, size_t patch_length)
@@ -303,6 +339,20 @@ static inline muongrabi_state muongrabi_open_lent(const uint8_t *list, size_t li
                           image_length, stash_length, work_length, result_length, patch_length);
 }
 
+/*
+ * Runs the list from where the state stands until it needs a byte that the piece does not have, the list is finished, or a line is
+ * refused. The state, which must not be null, is changed where it lies, and is then that of the next call. A refusal other than 17 is held in
+ * it, and every later call repeats it. With 17 the state stays as it was, and nothing is taken or changed. A refused line changes nothing
+ * itself, with two exceptions: where a hash differs (16) or a patch is malformed (19) the work area has the source, and where it is the hash of
+ * a patch's result, the result area has the result. Nothing rests on what the opening found: state and lengths are looked at (17), and each
+ * line is read and checked again (6 to 14, 18) before it runs, so that a line altered since then is refused where it stands. Line 2 is the
+ * opening's alone (15).
+ *
+ * A `bsdiff` puts its source together in the work area, and what the patch makes of it in the result area; only where both have their
+ * hashes is the result written to the image. A patch is bsdiff's control triples and bytes unpacked, not a file that bsdiff wrote: records to
+ * its end, each the two bytes 0x43 0x50; add length, extra length and seek, eight bytes each as bsdiff has them (lowest first, the top bit of
+ * the last one the sign); the bytes to add to the source's; the extra bytes.
+ */
 static inline muongrabi_answer muongrabi_call_lent(const uint8_t *list, size_t list_length,
                                                    uint8_t *image, size_t image_length,
                                                    uint8_t *stash, size_t stash_length,
@@ -310,18 +360,27 @@ static inline muongrabi_answer muongrabi_call_lent(const uint8_t *list, size_t l
                                                    uint8_t *result, size_t result_length,
                                                    const uint8_t *patch, size_t patch_length,
                                                    const uint8_t *piece, size_t piece_length,
-                                                   muongrabi_state state)
+                                                   muongrabi_state *state)
 {
+    muongrabi_export_answer answer;
     (void)muongrabi_abi_3();
-    return muongrabi_call(muongrabi_lent_bytes(list), muongrabi_lent_length(list, list_length),
-                          muongrabi_lent_area(image), muongrabi_lent_length(image, image_length),
-                          muongrabi_lent_area(stash), muongrabi_lent_length(stash, stash_length),
-                          muongrabi_lent_area(work), muongrabi_lent_length(work, work_length),
-                          muongrabi_lent_area(result), muongrabi_lent_length(result, result_length),
-                          muongrabi_lent_bytes(patch), muongrabi_lent_length(patch, patch_length),
-                          muongrabi_lent_bytes(piece), muongrabi_lent_length(piece, piece_length), state);
+    answer = muongrabi_call(muongrabi_lent_bytes(list), muongrabi_lent_length(list, list_length),
+                            muongrabi_lent_area(image), muongrabi_lent_length(image, image_length),
+                            muongrabi_lent_area(stash), muongrabi_lent_length(stash, stash_length),
+                            muongrabi_lent_area(work), muongrabi_lent_length(work, work_length),
+                            muongrabi_lent_area(result), muongrabi_lent_length(result, result_length),
+                            muongrabi_lent_bytes(patch), muongrabi_lent_length(patch, patch_length),
+                            muongrabi_lent_bytes(piece), muongrabi_lent_length(piece, piece_length),
+                            state->hashes, state->sizes, muongrabi_progress_of(state));
+    return muongrabi_answered(&answer, state);
 }
 
+/*
+ * Opens the list, then calls with pieces of data, whose lengths are the cuts_length numbers of cuts, cut short where data ends, and
+ * once more with all that is left. The answer is the last call's, its taken the sum over all calls. The state after that call is put into
+ * *state, which must not be null; what it held is not looked at. A refused opening is answered with MUONGRABI_REFUSED, its number and line,
+ * and taken 0; nothing but *state is changed then, which is the opening's.
+ */
 static inline muongrabi_answer muongrabi_run_lent(const uint8_t *list, size_t list_length,
                                                   uint8_t *image, size_t image_length,
                                                   uint8_t *stash, size_t stash_length,
@@ -329,19 +388,30 @@ static inline muongrabi_answer muongrabi_run_lent(const uint8_t *list, size_t li
                                                   uint8_t *result, size_t result_length,
                                                   const uint8_t *patch, size_t patch_length,
                                                   const uint8_t *data, size_t data_length,
-                                                  const size_t *cuts, size_t cuts_length)
+                                                  const size_t *cuts, size_t cuts_length,
+                                                  muongrabi_state *state)
 {
+    muongrabi_export_answer answer;
     (void)muongrabi_abi_3();
-    return muongrabi_run(muongrabi_lent_bytes(list), muongrabi_lent_length(list, list_length),
-                         muongrabi_lent_area(image), muongrabi_lent_length(image, image_length),
-                         muongrabi_lent_area(stash), muongrabi_lent_length(stash, stash_length),
-                         muongrabi_lent_area(work), muongrabi_lent_length(work, work_length),
-                         muongrabi_lent_area(result), muongrabi_lent_length(result, result_length),
-                         muongrabi_lent_bytes(patch), muongrabi_lent_length(patch, patch_length),
-                         muongrabi_lent_bytes(data), muongrabi_lent_length(data, data_length),
-                         muongrabi_lent_numbers(cuts), muongrabi_lent_length(cuts, cuts_length));
+    answer = muongrabi_run(muongrabi_lent_bytes(list), muongrabi_lent_length(list, list_length),
+                           muongrabi_lent_area(image), muongrabi_lent_length(image, image_length),
+                           muongrabi_lent_area(stash), muongrabi_lent_length(stash, stash_length),
+                           muongrabi_lent_area(work), muongrabi_lent_length(work, work_length),
+                           muongrabi_lent_area(result), muongrabi_lent_length(result, result_length),
+                           muongrabi_lent_bytes(patch), muongrabi_lent_length(patch, patch_length),
+                           muongrabi_lent_bytes(data), muongrabi_lent_length(data, data_length),
+                           muongrabi_lent_numbers(cuts), muongrabi_lent_length(cuts, cuts_length),
+                           state->hashes, state->sizes);
+    return muongrabi_answered(&answer, state);
 }
 
+/*
+ * Loads a sparse file into the image, which has as many blocks as the file's header says (a number of 32 bits, little-endian, at its byte 16):
+ * a raw chunk's blocks get the bytes it carries, a fill's blocks its four bytes over and over, and don't-care blocks keep what the image has.
+ * Gives 0, or 30 to 36: that of the header, else the earliest faulty chunk's lowest (a 0xCAC4 chunk is always 35), else that of the end. The
+ * whole file is checked before the first byte is written, so a file that is refused leaves the image as it was. Minor version, checksum
+ * field and reserved bytes are not looked at.
+ */
 static inline uint32_t muongrabi_sparse_load_lent(const uint8_t *file, size_t file_length, uint8_t *image, size_t image_length)
 {
     (void)muongrabi_abi_3();

@@ -113,8 +113,7 @@ int main(int argc, char **argv)
         do {
             got = fread(piece, 1, sizeof piece, data);
             answer = muongrabi_call(list, lengths.list, image, lengths.image, stash, lengths.stash, work, lengths.work,
-                                    result, lengths.result, patch, lengths.patch, piece, got, state);
-            state = answer.state;
+                                    result, lengths.result, patch, lengths.patch, piece, got, &state);
             taken += answer.taken;
         } while (answer.outcome == MUONGRABI_MORE && got == sizeof piece);
         if (ferror(data)) fail(argv[3]);

@@ -1,7 +1,7 @@
 /*
- * Lent areas stand against a page that may not be touched, behind them or before them, and list, patch data, piece, cuts and sparse file may
- * not be written: a byte read or written outside what was lent ends the program. What is null, and refusals in words, are tried after that. Ends in one line
- * `N passed, M failed`.
+ * Lent areas and states stand against a page that may not be touched, behind them or before them, and list, patch data, piece, cuts and sparse
+ * file may not be written: a byte read or written outside what was lent ends the program. What is null, and refusals in words, are tried after
+ * that. Ends in one line `N passed, M failed`.
  */
 #define _DEFAULT_SOURCE
 #include <stdio.h>
@@ -91,7 +91,13 @@ static void name_of(const char *letters, char out[41])
     for (int k = 0; k < 20; k++) sprintf(out + 2 * k, "%02x", hash[k]);
 }
 
-static lot list_lot, image_lot, stash_lot, work_lot, result_lot, patch_lot, piece_lot, cuts_lot, hash_lot, file_lot;
+static lot list_lot, image_lot, stash_lot, work_lot, result_lot, patch_lot, piece_lot, cuts_lot, hash_lot, file_lot, state_lot;
+
+/* A state where the others lie. */
+static muongrabi_state *lay_state(muongrabi_state state, int behind)
+{
+    return (muongrabi_state *)(void *)lay(&state_lot, &state, sizeof state, behind, 0);
+}
 
 /* Digests at every length around the padding, read and written against the pages. */
 static void digests(void)
@@ -176,6 +182,8 @@ static void whole_runs(size_t length)
     static uint8_t image[8 * BLOCK], data[3 * BLOCK], stash[3 * BLOCK], work[4 * BLOCK], result[2 * BLOCK];
     fill(data, "pqr");
     size_t pieces[] = {1, 64, 4095, 4096, 4097, 3 * BLOCK};
+    muongrabi_state last, other;
+    memset(&other, 0xa5, sizeof other);
     for (int behind = 0; behind < 2; behind++) {
         for (size_t k = 0; k < sizeof pieces / sizeof *pieces; k++) {
             fill(image, "ABCDEFGH");
@@ -188,7 +196,8 @@ static void whole_runs(size_t length)
             uint8_t *w = lay(&work_lot, work, sizeof work, behind, 0);
             uint8_t *r = lay(&result_lot, result, sizeof result, behind, 0);
             const uint8_t *p = lay(&patch_lot, patch, patch_length, behind, 1);
-            muongrabi_state state = muongrabi_open(l, length, sizeof image, sizeof stash, sizeof work, sizeof result, patch_length);
+            muongrabi_state *state = lay_state(
+                muongrabi_open(l, length, sizeof image, sizeof stash, sizeof work, sizeof result, patch_length), behind);
             muongrabi_answer answer = {.outcome = MUONGRABI_MORE};
             size_t taken = 0;
             int good = 1;
@@ -197,14 +206,14 @@ static void whole_runs(size_t length)
                 const uint8_t *piece = lay(&piece_lot, data + at, n, behind, 1);
                 answer = muongrabi_call(l, length, i, sizeof image, s, sizeof stash, w, sizeof work, r, sizeof result, p, patch_length,
                                         piece, n, state);
-                state = answer.state;
                 taken += answer.taken;
                 good &= sound(&answer);
             }
             check(good && answer.outcome == MUONGRABI_DONE && taken == sizeof data, "a run's end");
             check(holds(i, "p0HqBr0s") && holds(s, "HBH") && holds(w, "rHqv") && holds(r, "sl"), "what a run leaves");
-            check(state.count == 1 && state.sizes[0] == 1 && state.at == length && state.line == 16, "the state at the end");
-            check(state.lengths.result == sizeof result && state.lengths.patch == patch_length, "the lengths in a state");
+            check(state->count == 1 && state->sizes[0] == 1 && state->at == length && state->line == 16, "the state at the end");
+            check(state->lengths.result == sizeof result && state->lengths.patch == patch_length, "the lengths in a state");
+            last = *state;
         }
         size_t cuts[] = {0, 1, 4096, 5000, 0, 99999};
         fill(image, "ABCDEFGH");
@@ -219,9 +228,12 @@ static void whole_runs(size_t length)
         const uint8_t *p = lay(&patch_lot, patch, patch_length, behind, 1);
         const uint8_t *d = lay(&piece_lot, data, sizeof data, behind, 1);
         const size_t *c = (const size_t *)(const void *)lay(&cuts_lot, cuts, sizeof cuts, behind, 1);
+        /* Whatever the state held. */
+        muongrabi_state *state = lay_state(other, behind);
         muongrabi_answer answer = muongrabi_run(l, length, i, sizeof image, s, sizeof stash, w, sizeof work, r, sizeof result,
-                                                p, patch_length, d, sizeof data, c, 6);
+                                                p, patch_length, d, sizeof data, c, 6, state);
         check(answer.outcome == MUONGRABI_DONE && answer.taken == sizeof data, "a run over cuts");
+        check(memcmp(state, &last, sizeof last) == 0, "the state after a run over cuts");
         check(holds(i, "p0HqBr0s") && holds(s, "HBH") && holds(w, "rHqv") && holds(r, "sl"), "what a run over cuts leaves");
     }
 }
@@ -253,7 +265,7 @@ static void beginnings(size_t length)
             const uint8_t *p = lay(&patch_lot, patch, patch_length, 1, 1);
             const uint8_t *d = lay(&piece_lot, data, sizeof data, 1, 1);
             muongrabi_answer answer = muongrabi_call(l, n, i, sizeof image, s, sizeof stash, w, sizeof work, r, sizeof result,
-                                                     p, patch_length, d, sizeof data, from);
+                                                     p, patch_length, d, sizeof data, lay_state(from, 1));
             good &= sound(&answer);
         }
     }
@@ -288,6 +300,7 @@ static void patches(void)
     fill(work, "w");
     fill(result, "k");
     make_patch();
+    muongrabi_state after;
     for (int behind = 0; behind < 2; behind++) {
         int good = 1;
         for (size_t n = 0; n <= patch_length; n++) {
@@ -298,7 +311,8 @@ static void patches(void)
             uint8_t *w = lay(&work_lot, work, sizeof work, behind, 0);
             uint8_t *r = lay(&result_lot, result, sizeof result, behind, 0);
             const uint8_t *p = lay(&patch_lot, patch, n, behind, 1);
-            muongrabi_answer answer = muongrabi_run(l, length, i, sizeof image, NULL, 0, w, sizeof work, r, sizeof result, p, n, NULL, 0, NULL, 0);
+            muongrabi_answer answer =
+                muongrabi_run(l, length, i, sizeof image, NULL, 0, w, sizeof work, r, sizeof result, p, n, NULL, 0, NULL, 0, &after);
             good &= sound(&answer) && holds(w, "r");
             if (n < patch_length) good &= answer.number == MUONGRABI_REFUSAL_PATCH_MALFORMED && answer.line == 5 && holds(i, "rq") && holds(r, "k");
             else good &= answer.outcome == MUONGRABI_DONE && holds(i, "rs") && holds(r, "s");
@@ -320,7 +334,7 @@ static void patches(void)
                 uint8_t *r = lay(&result_lot, result, sizeof result, behind, 0);
                 const uint8_t *p = lay(&patch_lot, altered, patch_length, behind, 1);
                 muongrabi_answer answer =
-                    muongrabi_run(l, length, i, sizeof image, NULL, 0, w, sizeof work, r, sizeof result, p, patch_length, NULL, 0, NULL, 0);
+                    muongrabi_run(l, length, i, sizeof image, NULL, 0, w, sizeof work, r, sizeof result, p, patch_length, NULL, 0, NULL, 0, &after);
                 good &= sound(&answer) && holds(w, "r");
                 /* The last seek may be another. */
                 if (answer.outcome == MUONGRABI_DONE) good &= holds(i, "rs") && holds(r, "s");
@@ -347,7 +361,7 @@ static void patches(void)
                 state.line = 5;
                 state.lengths = (muongrabi_lengths){length, sizeof image, 0, sizeof work, sizeof result, patch_length};
                 muongrabi_answer answer =
-                    muongrabi_call(l, length, i, sizeof image, NULL, 0, w, sizeof work, r, sizeof result, p, patch_length, NULL, 0, state);
+                    muongrabi_call(l, length, i, sizeof image, NULL, 0, w, sizeof work, r, sizeof result, p, patch_length, NULL, 0, &state);
                 good &= answer.number == (from + bytes > patch_length ? MUONGRABI_REFUSAL_PAST_PATCH : MUONGRABI_REFUSAL_PATCH_MALFORMED);
                 good &= holds(i, "rq") && holds(r, "k");
             }
@@ -362,7 +376,10 @@ static void patches(void)
         memcpy(l, patch_list, length);
         memcpy(i, image, sizeof image);
         memcpy(p, patch, n);
-        muongrabi_answer answer = muongrabi_run(l, length, i, 2 * BLOCK, NULL, 0, w, BLOCK, r, BLOCK, p, n, NULL, 0, NULL, 0);
+        muongrabi_state *state = malloc(sizeof *state);
+        if (!state) exit(2);
+        muongrabi_answer answer = muongrabi_run(l, length, i, 2 * BLOCK, NULL, 0, w, BLOCK, r, BLOCK, p, n, NULL, 0, NULL, 0, state);
+        check(state->refusal.number == answer.number && state->line == (n == patch_length ? 6u : 5u), "a state in allocated memory");
         check(n == patch_length ? answer.outcome == MUONGRABI_DONE && holds(i, "rs") && holds(r, "s") : answer.number == 19 && holds(i, "rq"),
               "a patch in allocated memory");
         free(l);
@@ -370,6 +387,7 @@ static void patches(void)
         free(w);
         free(r);
         free(p);
+        free(state);
     }
 }
 
@@ -383,14 +401,14 @@ static void nothing_lent(void)
         const uint8_t *l = lay(&list_lot, empty, strlen(empty), behind, 1);
         muongrabi_state state = muongrabi_open(l, strlen(empty), 0, 0, 0, 0, 0);
         muongrabi_answer answer = muongrabi_call(l, strlen(empty), none.first, 0, none.first, 0, none.first, 0, none.first, 0, none.first, 0,
-                                                 none.first, 0, state);
+                                                 none.first, 0, &state);
         check(answer.outcome == MUONGRABI_DONE && answer.taken == 0, "the empty list with nothing lent");
         state = muongrabi_open(none.first, 0, 0, 0, 0, 0, 0);
         check(state.refusal.number == 3 && state.refusal.line == 1, "no list");
         answer = muongrabi_run(none.first, 0, none.first, 0, none.first, 0, none.first, 0, none.first, 0, none.first, 0,
-                               none.first, 0, (const size_t *)(const void *)none.first, 0);
+                               none.first, 0, (const size_t *)(const void *)none.first, 0, &state);
         check(answer.outcome == MUONGRABI_REFUSED && answer.number == 3 && answer.line == 1 && answer.taken == 0, "a run over no list");
-        check(only_refused(&answer.state), "the state of a run over no list");
+        check(only_refused(&state), "the state of a run over no list");
     }
 
     static uint8_t image[BLOCK];
@@ -410,14 +428,128 @@ static void nothing_lent(void)
                                     &state.lengths.result, &state.lengths.patch};
                 *fields[c] = borders[a];
                 *fields[(c + 1 + a % 7) % 8] = borders[b];
+                muongrabi_state *called = lay_state(state, (int)(a + b) % 2);
                 muongrabi_answer answer = muongrabi_call(l, strlen(some), i, BLOCK, none.first, 0, none.first, 0, none.first, 0, none.first, 0,
-                                                         d, 10, state);
+                                                         d, 10, called);
                 good &= sound(&answer);
-                if (answer.number == 17) good &= answer.taken == 0 && memcmp(&answer.state, &state, sizeof state) == 0;
+                if (answer.number == 17) good &= answer.taken == 0 && memcmp(called, &state, sizeof state) == 0;
             }
         }
     }
     check(good, "states of border values");
+}
+
+/* A state with bytes on both sides. */
+static struct {
+    uint8_t before[64];
+    muongrabi_state state;
+    uint8_t after[64];
+} kept;
+
+static int stayed(const uint8_t bytes[64])
+{
+    for (int k = 0; k < 64; k++)
+        if (bytes[k] != 0xc3) return 0;
+    return 1;
+}
+
+/* A call over the kept state; the bytes around it stay. */
+static muongrabi_answer call_kept(const char *text, size_t length, uint8_t *image, uint8_t *stash, uint8_t *work,
+                                  const uint8_t *piece, size_t piece_length)
+{
+    memset(kept.before, 0xc3, sizeof kept.before);
+    memset(kept.after, 0xc3, sizeof kept.after);
+    muongrabi_answer answer = muongrabi_call((const uint8_t *)text, length, image, BLOCK, stash, BLOCK, work, BLOCK, NULL, 0, NULL, 0,
+                                             piece, piece_length, &kept.state);
+    check(stayed(kept.before) && stayed(kept.after), "the bytes around a state");
+    return answer;
+}
+
+/* Tables in which every row is another; 255 stashes of no blocks are held, at the first command line of this list. */
+static muongrabi_state full_but_one(const char *text)
+{
+    muongrabi_state state = muongrabi_open((const uint8_t *)text, strlen(text), BLOCK, BLOCK, BLOCK, 0, 0);
+    for (size_t k = 0; k < MUONGRABI_MOST_STASHES; k++) memset(state.hashes + 20 * k, (int)k, 20);
+    state.sizes[MUONGRABI_MOST_STASHES - 1] = 77;
+    state.count = MUONGRABI_MOST_STASHES - 1;
+    return state;
+}
+
+/* A state is changed where it lies: the tables to their last rows, nothing beside them, and nothing at all where a call is refused so. */
+static void states_in_place(void)
+{
+    static uint8_t image[BLOCK], stash[BLOCK], work[BLOCK], data[BLOCK];
+    static char text[200];
+    char a[41];
+    fill(image, "A");
+    fill(stash, "x");
+    fill(work, "w");
+    fill(data, "p");
+    name_of("A", a);
+    snprintf(text, sizeof text, "3\n1\n256\n1\nstash %s 2,0,1\nnew 2,0,1\nfree %s\n", a, a);
+    size_t length = strlen(text);
+    muongrabi_state state = full_but_one(text);
+    check(state.refusal.number == 0, "a list for a full table");
+
+    /* 17, by a field of the progress, a row of either table or a length: nothing of the state is another. */
+    for (int k = 0; k < 6; k++) {
+        kept.state = state;
+        if (k == 0) kept.state.at++;
+        if (k == 1) kept.state.count = MUONGRABI_MOST_STASHES + 1;
+        if (k == 2) memcpy(kept.state.hashes + 20 * 254, kept.state.hashes, 20);
+        if (k == 3) kept.state.sizes[254] = 2;
+        if (k == 4) kept.state.into = 1;
+        muongrabi_state before = kept.state;
+        muongrabi_answer answer = call_kept(text, k == 5 ? length - 1 : length, image, stash, work, data, BLOCK);
+        check(answer.outcome == MUONGRABI_REFUSED && answer.number == 17 && answer.line == 0 && answer.taken == 0, "17");
+        check(memcmp(&kept.state, &before, sizeof before) == 0, "the state after 17");
+    }
+    /* A refusal that is held, with a table that is good, and with one that would be 17 without it. */
+    for (int k = 0; k < 2; k++) {
+        kept.state = state;
+        kept.state.refusal.number = 16;
+        kept.state.refusal.line = 9;
+        if (k == 1) kept.state.count = SIZE_MAX;
+        muongrabi_state before = kept.state;
+        muongrabi_answer answer = call_kept(text, length, image, stash, work, data, BLOCK);
+        check(answer.outcome == MUONGRABI_REFUSED && answer.number == 16 && answer.line == 9 && answer.taken == 0, "a held refusal");
+        check(memcmp(&kept.state, &before, sizeof before) == 0, "the state after a held refusal");
+    }
+    check(holds(image, "A") && holds(stash, "x") && holds(work, "w"), "the areas after those");
+
+    /* The last rows are written, and no others. */
+    kept.state = state;
+    muongrabi_answer answer = call_kept(text, length, image, stash, work, NULL, 0);
+    check(answer.outcome == MUONGRABI_MORE && answer.taken == 0 && kept.state.count == MUONGRABI_MOST_STASHES, "a full table");
+    muongrabi_state expected = state;
+    uint8_t *last = expected.hashes + 20 * (MUONGRABI_MOST_STASHES - 1);
+    muongrabi_digest(image, BLOCK, last);
+    expected.sizes[MUONGRABI_MOST_STASHES - 1] = 1;
+    check(memcmp(kept.state.hashes, expected.hashes, sizeof expected.hashes) == 0, "the hashes of a full table");
+    check(memcmp(kept.state.sizes, expected.sizes, sizeof expected.sizes) == 0, "the sizes of a full table");
+    answer = call_kept(text, length, image, stash, work, data, BLOCK);
+    check(answer.outcome == MUONGRABI_DONE && answer.taken == BLOCK && kept.state.count == MUONGRABI_MOST_STASHES - 1, "one stash freed");
+    check(memcmp(kept.state.hashes, state.hashes, 20 * (MUONGRABI_MOST_STASHES - 1)) == 0, "the hashes of those still held");
+    check(holds(image, "p") && holds(stash, "A"), "the areas at the end");
+
+    /* A run puts the state into its place, whatever was there, and a refused opening's too. */
+    fill(image, "A");
+    for (int k = 0; k < 2; k++) {
+        memset(&kept, 0xc3, sizeof kept);
+        size_t n = k == 0 ? length : 7;
+        muongrabi_state opened = muongrabi_open((const uint8_t *)text, n, BLOCK, BLOCK, BLOCK, 0, 0);
+        answer = muongrabi_run((const uint8_t *)text, n, image, BLOCK, stash, BLOCK, work, BLOCK, NULL, 0, NULL, 0, NULL, 0, NULL, 0, &kept.state);
+        check(stayed(kept.before) && stayed(kept.after), "the bytes around a run's state");
+        if (k == 0) {
+            opened.count = 1;
+            opened.line = 6;
+            opened.at = (size_t)(strstr(text, "new") - text);
+            opened.sizes[0] = 1;
+            memcpy(opened.hashes, last, 20);
+        }
+        check(answer.outcome == (k == 0 ? MUONGRABI_MORE : MUONGRABI_REFUSED) && answer.taken == 0, "a run's answer");
+        check(memcmp(&kept.state, &opened, sizeof opened) == 0, "a run's state");
+    }
 }
 
 static uint8_t sparse_file[3 * BLOCK];
@@ -550,24 +682,24 @@ static void null_pointers(void)
 
     const uint8_t *list = (const uint8_t *)empty;
     state = muongrabi_open(list, strlen(empty), 0, 0, 0, 0, 0);
-    muongrabi_answer answer = muongrabi_call(list, strlen(empty), NULL, 0, NULL, 0, NULL, 0, NULL, 0, NULL, 0, NULL, 0, state);
+    muongrabi_answer answer = muongrabi_call(list, strlen(empty), NULL, 0, NULL, 0, NULL, 0, NULL, 0, NULL, 0, NULL, 0, &state);
     check(answer.outcome == MUONGRABI_DONE && answer.taken == 0, "null areas");
-    answer = muongrabi_call(NULL, strlen(empty), NULL, 0, NULL, 0, NULL, 0, NULL, 0, NULL, 0, NULL, 0, state);
+    answer = muongrabi_call(NULL, strlen(empty), NULL, 0, NULL, 0, NULL, 0, NULL, 0, NULL, 0, NULL, 0, &state);
     check(answer.number == MUONGRABI_REFUSAL_STATE_IMPOSSIBLE, "a null list in a call");
-    answer = muongrabi_run(list, strlen(empty), NULL, 0, NULL, 0, NULL, 0, NULL, 0, NULL, 0, NULL, 0, NULL, 0);
+    answer = muongrabi_run(list, strlen(empty), NULL, 0, NULL, 0, NULL, 0, NULL, 0, NULL, 0, NULL, 0, NULL, 0, &state);
     check(answer.outcome == MUONGRABI_DONE && answer.taken == 0, "a run over null areas");
-    answer = muongrabi_run(list, strlen(empty), NULL, BLOCK, NULL, 1, NULL, 2, NULL, 3, NULL, 4, NULL, 5, NULL, 6);
+    answer = muongrabi_run(list, strlen(empty), NULL, BLOCK, NULL, 1, NULL, 2, NULL, 3, NULL, 4, NULL, 5, NULL, 6, &state);
     check(answer.outcome == MUONGRABI_DONE && answer.taken == 0, "a run over null areas with lengths");
 
     list = (const uint8_t *)one;
     state = muongrabi_open(list, strlen(one), BLOCK, 0, 0, 0, 0);
-    answer = muongrabi_call(list, strlen(one), NULL, BLOCK, NULL, 0, NULL, 0, NULL, 0, NULL, 0, data, BLOCK, state);
+    answer = muongrabi_call(list, strlen(one), NULL, BLOCK, NULL, 0, NULL, 0, NULL, 0, NULL, 0, data, BLOCK, &state);
     check(answer.number == MUONGRABI_REFUSAL_STATE_IMPOSSIBLE && answer.taken == 0, "a null image with a length");
-    answer = muongrabi_call(list, strlen(one), image, BLOCK, NULL, 0, NULL, 0, NULL, BLOCK, NULL, 9, NULL, BLOCK, state);
+    answer = muongrabi_call(list, strlen(one), image, BLOCK, NULL, 0, NULL, 0, NULL, BLOCK, NULL, 9, NULL, BLOCK, &state);
     check(answer.outcome == MUONGRABI_MORE && answer.taken == 0, "a null piece with a length");
     muongrabi_answer (*called)(const uint8_t *, size_t, uint8_t *, size_t, uint8_t *, size_t, uint8_t *, size_t, uint8_t *, size_t,
-                               const uint8_t *, size_t, const uint8_t *, size_t, muongrabi_state) = muongrabi_call;
-    answer = called(list, strlen(one), image, BLOCK, NULL, 0, NULL, 0, NULL, 0, NULL, 0, data, BLOCK, answer.state);
+                               const uint8_t *, size_t, const uint8_t *, size_t, muongrabi_state *) = muongrabi_call;
+    answer = called(list, strlen(one), image, BLOCK, NULL, 0, NULL, 0, NULL, 0, NULL, 0, data, BLOCK, &state);
     check(answer.outcome == MUONGRABI_DONE && answer.taken == BLOCK, "null through a function pointer");
 
     make_sparse_file();
@@ -607,12 +739,14 @@ int main(void)
     cuts_lot = new_lot(1);
     hash_lot = new_lot(1);
     file_lot = new_lot(3);
+    state_lot = new_lot(2);
     digests();
     size_t length = make_list();
     whole_runs(length);
     beginnings(length);
     patches();
     nothing_lent();
+    states_in_place();
     sparse_files();
     sparse_files_in_allocated_memory();
     null_pointers();

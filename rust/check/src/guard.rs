@@ -1,6 +1,7 @@
 //! Memory between two pages that may not be touched, so that a byte read or written outside a lent area stops the program.
 
 use std::ffi::{c_int, c_long, c_void};
+use std::mem::{align_of, needs_drop, size_of};
 
 extern "C" {
     fn mmap(at: *mut c_void, length: usize, protection: c_int, flags: c_int, file: c_int, offset: c_long) -> *mut c_void;
@@ -45,6 +46,22 @@ impl Guarded {
         self.start = if behind { PAGE + self.room - bytes.len() } else { PAGE };
         self.length = bytes.len();
         self.bytes_mut().copy_from_slice(bytes);
+    }
+
+    /// Holds this value from now on. Its size is a multiple of its alignment, and so are the ends of a page, so it lies as it must at both.
+    pub fn value<T>(&mut self, value: T, behind: bool) -> &mut T {
+        const { assert!(align_of::<T>() <= PAGE && !needs_drop::<T>()) };
+        if size_of::<T>() > self.room {
+            *self = Guarded::new(size_of::<T>());
+        }
+        self.start = if behind { PAGE + self.room - size_of::<T>() } else { PAGE };
+        self.length = size_of::<T>();
+        // SAFETY: start and size lie within the open pages; what is written is a `T`, and borrowed for writing.
+        unsafe {
+            let at = self.base.add(self.start).cast::<T>();
+            at.write(value);
+            &mut *at
+        }
     }
 
     pub fn bytes(&self) -> &[u8] {

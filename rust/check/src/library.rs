@@ -1,12 +1,20 @@
 //! The proved library as an implementation. Each call converts its state to the library's form and back, so nothing is timed here.
 
+use crate::guard::Guarded;
 use crate::Implementation;
 use muongrabi::{Called, Fields, Stash};
 use reference::{Answer, Areas, Hash, Lengths, Outcome, Refusal, Rooms, State, MOST_STASHES};
 use std::array::from_fn;
+use std::cell::RefCell;
+use std::mem::size_of;
 
 /// The proved library.
 pub struct Library;
+
+thread_local! {
+    /// Where a call's state lies, which is changed in its place: against a page that may not be touched, behind it and before it by turns.
+    static ROOM: RefCell<(Guarded, bool)> = RefCell::new((Guarded::new(size_of::<muongrabi::State>()), false));
+}
 
 impl Implementation for Library {
     fn digest(&self, bytes: &[u8]) -> Hash {
@@ -22,9 +30,12 @@ impl Implementation for Library {
     }
 
     fn call(&self, list: &[u8], areas: Areas, piece: &[u8], state: State) -> Answer {
-        let mut state = library_state(&state);
-        let called = muongrabi::call(list, areas_of(areas), piece, &mut state);
-        answer_of(called, &state)
+        ROOM.with_borrow_mut(|(room, behind)| {
+            *behind = !*behind;
+            let state = room.value(library_state(&state), *behind);
+            let called = muongrabi::call(list, areas_of(areas), piece, state);
+            answer_of(called, state)
+        })
     }
 
     fn run(&self, list: &[u8], areas: Areas, data: &[u8], cuts: &[usize]) -> Answer {

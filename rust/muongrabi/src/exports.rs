@@ -7,6 +7,9 @@ use core::mem::{offset_of, size_of};
 pub const DONE: usize = 0;
 pub const MORE: usize = 1;
 
+/// The table of the stashes' hashes.
+pub const TABLE_BYTES: usize = 20 * MOST_STASHES;
+
 #[repr(C)]
 #[derive(Clone, Copy, PartialEq, Eq)]
 pub struct Refusal {
@@ -27,9 +30,7 @@ pub struct Lengths {
 
 #[repr(C)]
 #[derive(Clone, Copy, PartialEq, Eq)]
-pub struct State {
-    pub hashes: [u8; 20 * MOST_STASHES],
-    pub sizes: [usize; MOST_STASHES],
+pub struct Progress {
     pub count: usize,
     pub line: usize,
     pub at: usize,
@@ -38,9 +39,18 @@ pub struct State {
     pub lengths: Lengths,
 }
 
+/// It is 7 KB, so that a copy is only made where one is asked for.
+#[repr(C)]
+#[derive(Clone, PartialEq, Eq)]
+pub struct State {
+    pub hashes: [u8; TABLE_BYTES],
+    pub sizes: [usize; MOST_STASHES],
+    pub progress: Progress,
+}
+
 #[repr(C)]
 pub struct Answer {
-    pub state: State,
+    pub progress: Progress,
     pub outcome: usize,
     pub number: usize,
     pub line: usize,
@@ -54,25 +64,27 @@ const _: () = {
     assert!(size_of::<Lengths>() == 48);
     assert!(offset_of!(State, hashes) == 0);
     assert!(offset_of!(State, sizes) == 5_120);
-    assert!(offset_of!(State, count) == 7_168);
-    assert!(offset_of!(State, line) == 7_176);
-    assert!(offset_of!(State, at) == 7_184);
-    assert!(offset_of!(State, into) == 7_192);
-    assert!(offset_of!(State, refusal) == 7_200);
-    assert!(offset_of!(State, lengths) == 7_216);
+    assert!(offset_of!(State, progress) == 7_168);
     assert!(size_of::<State>() == 7_264);
-    assert!(offset_of!(Answer, state) == 0);
-    assert!(offset_of!(Answer, outcome) == 7_264);
-    assert!(offset_of!(Answer, number) == 7_272);
-    assert!(offset_of!(Answer, line) == 7_280);
-    assert!(offset_of!(Answer, taken) == 7_288);
-    assert!(size_of::<Answer>() == 7_296);
+    assert!(offset_of!(Progress, count) == 0);
+    assert!(offset_of!(Progress, line) == 8);
+    assert!(offset_of!(Progress, at) == 16);
+    assert!(offset_of!(Progress, into) == 24);
+    assert!(offset_of!(Progress, refusal) == 32);
+    assert!(offset_of!(Progress, lengths) == 48);
+    assert!(size_of::<Progress>() == 96);
+    assert!(offset_of!(Answer, progress) == 0);
+    assert!(offset_of!(Answer, outcome) == 96);
+    assert!(offset_of!(Answer, number) == 104);
+    assert!(offset_of!(Answer, line) == 112);
+    assert!(offset_of!(Answer, taken) == 120);
+    assert!(size_of::<Answer>() == 128);
 };
 
 #[rustfmt::skip]
 extern "C" {
     fn muongrabi_abi_3() -> usize;
-    fn muongrabi_digest(bytes: *const u8, bytes_length: usize, out: *mut u8);
+    fn muongrabi_digest(bytes: *const u8, bytes_length: usize, out: *mut [u8; 20]);
     fn muongrabi_open(
         list: *const u8, list_length: usize,
         image_length: usize, stash_length: usize, work_length: usize, result_length: usize, patch_length: usize,
@@ -85,7 +97,7 @@ extern "C" {
         result: *mut u8, result_length: usize,
         patch: *const u8, patch_length: usize,
         piece: *const u8, piece_length: usize,
-        state: State,
+        hashes: *mut [u8; TABLE_BYTES], sizes: *mut [usize; MOST_STASHES], progress: Progress,
     ) -> Answer;
     fn muongrabi_run(
         list: *const u8, list_length: usize,
@@ -96,6 +108,7 @@ extern "C" {
         patch: *const u8, patch_length: usize,
         data: *const u8, data_length: usize,
         cuts: *const usize, cuts_length: usize,
+        hashes: *mut [u8; TABLE_BYTES], sizes: *mut [usize; MOST_STASHES],
     ) -> Answer;
     fn muongrabi_sparse_load(file: *const u8, file_length: usize, image: *mut u8, image_length: usize) -> u32;
 }
@@ -109,7 +122,7 @@ fn ask_abi() {
 pub fn digest(bytes: &[u8]) -> [u8; 20] {
     let mut out = [0; 20];
     // SAFETY: the bytes are lent to be read, and 20 bytes to be written.
-    unsafe { muongrabi_digest(bytes.as_ptr(), bytes.len(), out.as_mut_ptr()) };
+    unsafe { muongrabi_digest(bytes.as_ptr(), bytes.len(), &mut out) };
     out
 }
 
@@ -120,12 +133,15 @@ pub fn open(list: &[u8], lengths: crate::Lengths) -> State {
     unsafe { muongrabi_open(list.as_ptr(), list.len(), image, stash, work, result, patch) }
 }
 
+/// The state is then that of the next call. Its tables are changed where they lie.
 #[rustfmt::skip]
-pub fn call(list: &[u8], areas: Areas<'_>, piece: &[u8], state: &State) -> Answer {
+pub fn call(list: &[u8], areas: Areas<'_>, piece: &[u8], state: &mut State) -> Answer {
     let Areas { image, stash, work, result, patch } = areas;
+    let State { hashes, sizes, progress } = state;
     ask_abi();
-    // SAFETY: seven slices, each with its own length. The four that are written are borrowed for writing, so none overlaps another.
-    unsafe {
+    // SAFETY: seven slices, each with its own length, and two whole tables. The four slices that are written and the tables are borrowed for
+    // writing, so none overlaps another.
+    let answer = unsafe {
         muongrabi_call(
             list.as_ptr(), list.len(),
             image.as_mut_ptr(), image.len(),
@@ -134,17 +150,22 @@ pub fn call(list: &[u8], areas: Areas<'_>, piece: &[u8], state: &State) -> Answe
             result.as_mut_ptr(), result.len(),
             patch.as_ptr(), patch.len(),
             piece.as_ptr(), piece.len(),
-            *state,
+            hashes, sizes, *progress,
         )
-    }
+    };
+    *progress = answer.progress;
+    answer
 }
 
+/// The last call's answer, and the state after it.
 #[rustfmt::skip]
-pub fn run(list: &[u8], areas: Areas<'_>, data: &[u8], cuts: &[usize]) -> Answer {
+pub fn run(list: &[u8], areas: Areas<'_>, data: &[u8], cuts: &[usize]) -> (Answer, State) {
     let Areas { image, stash, work, result, patch } = areas;
+    let mut hashes = [0; TABLE_BYTES];
+    let mut sizes = [0; MOST_STASHES];
     ask_abi();
     // SAFETY: as in `call`; the cuts are lent to be read.
-    unsafe {
+    let answer = unsafe {
         muongrabi_run(
             list.as_ptr(), list.len(),
             image.as_mut_ptr(), image.len(),
@@ -154,8 +175,11 @@ pub fn run(list: &[u8], areas: Areas<'_>, data: &[u8], cuts: &[usize]) -> Answer
             patch.as_ptr(), patch.len(),
             data.as_ptr(), data.len(),
             cuts.as_ptr(), cuts.len(),
+            &mut hashes, &mut sizes,
         )
-    }
+    };
+    let progress = answer.progress;
+    (answer, State { hashes, sizes, progress })
 }
 
 /// 0, or the number of a refusal.

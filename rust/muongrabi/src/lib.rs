@@ -5,7 +5,7 @@
 //! This crate is the safe face of a library that is proved: any bytes as list, data, patch, state or sparse file get an answer; a list opens
 //! exactly when it meets the rules, and then does what they say, in order; and however the new data is cut into pieces, what stands after the
 //! last call is what the rules give for the pieces joined. Nothing is allocated, no file is opened and nothing is kept inside: all that is
-//! worked on is lent, and what must be remembered between calls is the [`State`]. Some 32 KiB of stack are wanted.
+//! worked on is lent, and what must be remembered between calls is the [`State`]. Some 52 KiB of stack are wanted, 8 of them by a [`call`].
 //!
 //! ```
 //! use muongrabi::{Areas, Outcome, Updater, BLOCK};
@@ -121,9 +121,7 @@ pub fn open(list: &[u8], lengths: Lengths) -> Result<State, Refusal> {
 /// # Ok::<(), muongrabi::Refusal>(())
 /// ```
 pub fn call(list: &[u8], areas: Areas<'_>, piece: &[u8], state: &mut State) -> Called {
-    let answer = exports::call(list, areas, piece, &state.raw);
-    state.raw = answer.state;
-    Called::of(&answer)
+    Called::of(&exports::call(list, areas, piece, &mut state.raw))
 }
 
 /// Opens the list, then calls with pieces of the data, whose lengths are `cuts`, cut short where the data ends, and once more with all
@@ -139,6 +137,6 @@ pub fn call(list: &[u8], areas: Areas<'_>, piece: &[u8], state: &mut State) -> C
 /// assert_eq!((called.outcome, called.taken), (Outcome::Done, 8_192));
 /// ```
 pub fn run(list: &[u8], areas: Areas<'_>, data: &[u8], cuts: &[usize]) -> (Called, State) {
-    let answer = exports::run(list, areas, data, cuts);
-    (Called::of(&answer), State { raw: answer.state })
+    let (answer, raw) = exports::run(list, areas, data, cuts);
+    (Called::of(&answer), State { raw })
 }

@@ -47,17 +47,17 @@ pub struct Fields {
 impl State {
     /// The current line's number, counted from 1.
     pub fn line(&self) -> usize {
-        self.raw.line
+        self.raw.progress.line
     }
 
     /// Where the current line starts in the list, in bytes from 0: how far the run has come.
     pub fn at(&self) -> usize {
-        self.raw.at
+        self.raw.progress.at
     }
 
     /// The refusal that every later call repeats, if there is one.
     pub fn refusal(&self) -> Option<Refusal> {
-        match self.raw.refusal {
+        match self.raw.progress.refusal {
             exports::Refusal { number: 0, .. } => None,
             exports::Refusal { number, line } => Some(Refusal::new(number, line)),
         }
@@ -65,7 +65,8 @@ impl State {
 
     /// All that it holds.
     pub fn fields(&self) -> Fields {
-        let exports::State { hashes, sizes, count, line, at, into, refusal, lengths } = &self.raw;
+        let exports::State { hashes, sizes, progress } = &self.raw;
+        let exports::Progress { count, line, at, into, refusal, lengths } = *progress;
         let mut stashes = [Stash { hash: [0; 20], blocks: 0 }; MOST_STASHES];
         for ((stash, hash), blocks) in stashes.iter_mut().zip(hashes.chunks_exact(20)).zip(sizes) {
             stash.hash.copy_from_slice(hash);
@@ -73,10 +74,10 @@ impl State {
         }
         Fields {
             stashes,
-            count: *count,
-            line: *line,
-            at: *at,
-            into: *into,
+            count,
+            line,
+            at,
+            into,
             refusal: Refusal::new(refusal.number, refusal.line),
             list: lengths.list,
             lengths: Lengths { image: lengths.image, stash: lengths.stash, work: lengths.work, result: lengths.result, patch: lengths.patch },
@@ -87,9 +88,7 @@ impl State {
 impl From<&Fields> for State {
     fn from(fields: &Fields) -> State {
         let Fields { stashes, count, line, at, into, refusal, list, lengths } = fields;
-        let mut raw = exports::State {
-            hashes: [0; 20 * MOST_STASHES],
-            sizes: [0; MOST_STASHES],
+        let progress = exports::Progress {
             count: *count,
             line: *line,
             at: *at,
@@ -104,6 +103,7 @@ impl From<&Fields> for State {
                 patch: lengths.patch,
             },
         };
+        let mut raw = exports::State { hashes: [0; exports::TABLE_BYTES], sizes: [0; MOST_STASHES], progress };
         for ((stash, hash), size) in stashes.iter().zip(raw.hashes.chunks_exact_mut(20)).zip(&mut raw.sizes) {
             hash.copy_from_slice(&stash.hash);
             *size = stash.blocks;

@@ -52,7 +52,7 @@ fn abi() {
         assert!(text.contains(&declared), "{declared}");
     }
     // The layout that goes with the number.
-    assert_eq!((number, size_asserted("state"), size_asserted("answer")), ("3", "7264", "7296"));
+    assert_eq!((number, ["state", "progress", "export_answer"].map(size_asserted)), ("3", ["7264", "96", "128"]));
 }
 
 #[test]
@@ -69,6 +69,9 @@ fn limits() {
         assert!(proved.contains(&(source, limit)), "{source}");
         assert_eq!(defined(header), format!("{limit}ul"), "{header}");
     }
+    assert!(proved.contains(&("HASH_BYTES", 20)));
+    assert_eq!(between(LIMITS, "pub const TABLE_BYTES: usize = ", ";"), "HASH_BYTES * MOST_STASHES");
+    assert_eq!(between(EXPORTS, "pub const TABLE_BYTES: usize = ", ";"), "20 * MOST_STASHES");
 }
 
 #[test]
@@ -189,28 +192,59 @@ fn fields<'a>(source: &'a str, name: &str) -> Vec<&'a str> {
     body.lines().map(|line| between(line, "pub ", ":")).collect()
 }
 
+/// The fields of a struct of the header, in their order.
+fn header_fields(name: &str) -> Vec<&'static str> {
+    let body = between(HEADER, &format!("typedef struct muongrabi_{name} {{\n"), "\n}");
+    let field = |line: &'static str| line.split(';').next()?.split('[').next()?.split(' ').next_back();
+    body.lines().map(|line| field(line).expect("a field")).collect()
+}
+
+/// The fields, with those of the progress where it stands.
+fn spread<'a>(fields: &[&'a str], progress: &[&'a str]) -> Vec<&'a str> {
+    fields.iter().flat_map(|field| if *field == "progress" { progress } else { std::slice::from_ref(field) }).copied().collect()
+}
+
 #[test]
 fn structs() {
-    for (name, source) in [("Refusal", STATE), ("Lengths", STATE), ("State", STATE), ("Answer", LIBRARY)] {
-        let body = between(HEADER, &format!("typedef struct muongrabi_{} {{\n", name.to_lowercase()), "\n}");
-        let of_header: Vec<&str> = body
-            .lines()
-            .map(|line| line.split(';').next().and_then(|field| field.split('[').next()?.split(' ').next_back()).expect("a field"))
-            .collect();
+    for (name, source, in_header) in
+        [("Refusal", STATE, "refusal"), ("Lengths", STATE, "lengths"), ("Progress", STATE, "progress"), ("Answer", LIBRARY, "export_answer")]
+    {
+        let of_header = header_fields(in_header);
         assert_eq!(fields(EXPORTS, name), of_header, "{name}");
         assert_eq!(fields(source, name), of_header, "{name}");
     }
+    // A state is its tables and then its progress, which this crate keeps as one field.
+    let progress = header_fields("progress");
+    assert_eq!(header_fields("state"), spread(&["hashes", "sizes", "progress"], &progress));
+    assert_eq!(fields(STATE, "State"), header_fields("state"));
+    assert_eq!(spread(&fields(EXPORTS, "State"), &progress), header_fields("state"));
+    // What people are answered has no part of a state.
+    assert_eq!(spread(&header_fields("export_answer"), &[]), header_fields("answer"));
 }
 
-/// A parameter as it crosses: its name, and whether it is a pointer, a number or a struct. A slice is a pointer and a number.
+/// A parameter as it crosses: its name, and whether it is a pointer, an array that is pointed to, a number or a struct. A slice is a pointer and
+/// a number.
 fn crosses(name: &str, kind: &str) -> String {
     let name = name.trim().trim_end_matches("_length");
     match kind.trim() {
         "&[u8]" | "&mut [u8]" | "&[usize]" => format!("{name}* {name} "),
-        "&mut [u8; 20]" | "*const u8" | "*mut u8" | "*const usize" | "*" => format!("{name}* "),
+        "*const u8" | "*mut u8" | "*const usize" | "*" => format!("{name}* "),
+        "&mut [u8; 20]" | "*mut [u8; 20]" | "uint8_t[20]" => format!("{name}*20 "),
+        "&mut [u8; TABLE_BYTES]" | "*mut [u8; TABLE_BYTES]" | "uint8_t[20 * MUONGRABI_MOST_STASHES]" => format!("{name}*table "),
+        "&mut [usize; MOST_STASHES]" | "*mut [usize; MOST_STASHES]" | "size_t[MUONGRABI_MOST_STASHES]" => format!("{name}*most "),
         "usize" | "size_t" => format!("{name} "),
-        "State" | "muongrabi_state" => format!("{name}: state "),
+        "Progress" | "muongrabi_progress" => format!("{name}: progress "),
         other => panic!("what is {other:?}?"),
+    }
+}
+
+/// A parameter of the header.
+fn header_crosses(one: &str) -> String {
+    let (declared, length) = one.split_once('[').map_or((one, String::new()), |(declared, length)| (declared, format!("[{length}")));
+    let (kind, name) = declared.rsplit_once(' ').expect("a parameter");
+    match name.strip_prefix('*') {
+        Some(name) => crosses(name, "*"),
+        None => crosses(name, &(kind.to_string() + &length)),
     }
 }
 
@@ -219,8 +253,8 @@ fn functions() {
     for (gives, name, gives_here) in [
         ("void", "digest", ""),
         ("muongrabi_state", "open", " -> State"),
-        ("muongrabi_answer", "call", " -> Answer"),
-        ("muongrabi_answer", "run", " -> Answer"),
+        ("muongrabi_export_answer", "call", " -> Answer"),
+        ("muongrabi_export_answer", "run", " -> Answer"),
         ("uint32_t", "sparse_load", " -> u32"),
     ] {
         let of_rust = |source: &str| -> String {
@@ -229,15 +263,9 @@ fn functions() {
             parted.map(|(name, kind)| crosses(name, kind)).collect()
         };
         let parameters = between(HEADER, &format!("\n{gives} muongrabi_{name}("), ");").split(',').map(str::trim);
-        let of_header: String = parameters
-            .map(|one| {
-                let (kind, name) = one.rsplit_once(' ').expect("a parameter");
-                let is_pointer = name.contains(['*', '[']);
-                crosses(name.trim_start_matches('*').trim_end_matches("[20]"), if is_pointer { "*" } else { kind })
-            })
-            .collect();
+        let of_header: String = parameters.map(header_crosses).collect();
         assert_eq!(of_rust(EXPORTS), of_header, "{name}");
-        for (source, end) in [(EXPORTS, ";"), (LIBRARY, "\n    ensures")] {
+        for (source, end) in [(EXPORTS, ";\n"), (LIBRARY, "\n    ensures")] {
             let declared = between(source, &format!("fn muongrabi_{name}("), end);
             assert_eq!(declared.rsplit_once(')').map(|(_, after)| after), Some(gives_here), "{name}");
         }

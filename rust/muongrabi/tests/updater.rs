@@ -1,6 +1,7 @@
 //! What this crate adds to the library: areas lent by name, states in the open, an updater that keeps them together.
 
-use muongrabi::{call, digest, open, run, Areas, Called, Fields, Lengths, Outcome, Refusal, State, Updater, BLOCK};
+use muongrabi::{call, digest, open, run, Areas, Called, Fields, Lengths, Outcome, Refusal, Stash, State, Updater, BLOCK, MOST_STASHES};
+use std::hint::black_box;
 
 /// Blocks, each filled with its letter.
 fn blocks(letters: &str) -> Vec<u8> {
@@ -132,12 +133,47 @@ fn every_field_crosses_as_itself() {
     }
     assert!(!shown.contains("blocks: 1001"), "{shown}");
     fields.count = usize::MAX;
-    assert!(format!("{:?}", State::from(&fields)).contains("blocks: 1063"));
-    // A refusal that is held is repeated.
+    assert!(format!("{:?}", State::from(&fields)).contains("blocks: 1255"));
+    // A refusal that is held is repeated, and the state stays as it was.
     fields.refusal = Refusal::new(99, 6);
     let mut state = State::from(&fields);
     assert_eq!(state.refusal(), Some(Refusal::new(99, 6)));
     assert_eq!(call(b"", lent.areas(), b"", &mut state).outcome, Outcome::Refused(Refusal::new(99, 6)));
+    assert_eq!(state.fields(), fields);
+    assert_eq!(lent.letters(), ["ABCDEFGH", "x", "uvw", "rs"]);
+}
+
+#[test]
+fn a_state_is_changed_where_it_lies_and_nothing_beside_it() {
+    #[repr(C)]
+    struct Between {
+        before: [u8; 64],
+        state: State,
+        after: [u8; 64],
+    }
+    // All stashes but one are held, of no blocks; the list brings the last and frees it again.
+    let list = format!("3\n1\n256\n1\nstash {} 2,0,1\nnew 2,0,1\nfree {}\n", name("A"), name("A"));
+    let mut lent = Lent::new();
+    let mut fields = open(list.as_bytes(), lent.areas().lengths()).expect("a good list").fields();
+    for (k, stash) in fields.stashes.iter_mut().enumerate() {
+        stash.hash = [k as u8; 20];
+    }
+    fields.count = MOST_STASHES - 1;
+    let mut between = Between { before: [0xc3; 64], state: State::from(&fields), after: [0xc3; 64] };
+    for (piece, called, count) in [
+        (blocks(""), Called { outcome: Outcome::More, taken: 0 }, MOST_STASHES),
+        (blocks("p"), Called { outcome: Outcome::Done, taken: BLOCK }, MOST_STASHES - 1),
+    ] {
+        assert_eq!(call(list.as_bytes(), lent.areas(), &piece, &mut black_box(&mut between).state), called);
+        let Between { before, state, after } = black_box(&between);
+        assert_eq!((before, after), (&[0xc3; 64], &[0xc3; 64]));
+        let now = state.fields();
+        assert_eq!(now.count, count);
+        assert_eq!(now.stashes[..MOST_STASHES - 1], fields.stashes[..MOST_STASHES - 1]);
+        if count == MOST_STASHES {
+            assert_eq!(now.stashes[MOST_STASHES - 1], Stash { hash: digest(&blocks("A")), blocks: 1 });
+        }
+    }
 }
 
 #[test]

@@ -32,8 +32,9 @@ impl Implementation for Plain {
     fn open(&self, list: &[u8], rooms: Rooms) -> State {
         plain::open(list, rooms)
     }
-    fn call(&self, list: &[u8], areas: Areas, piece: &[u8], state: State) -> Answer {
-        plain::call(list, areas, piece, state)
+    fn call(&self, list: &[u8], areas: Areas, piece: &[u8], mut state: State) -> Answer {
+        let called = plain::call(list, areas, piece, &mut state);
+        Answer { state, outcome: called.outcome, taken: called.taken }
     }
     fn run(&self, list: &[u8], areas: Areas, data: &[u8], cuts: &[usize]) -> Answer {
         plain::run(list, areas, data, cuts)

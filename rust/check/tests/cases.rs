@@ -48,7 +48,7 @@ fn shapeless_bytes() {
         for _ in 0..rng.below(4) {
             disturb(&mut rng, &mut state, &list);
         }
-        plain::call(&list, areas.reborrow(), b"abc", state);
+        plain::call(&list, areas.reborrow(), b"abc", &mut state);
     }
 }
 
@@ -66,11 +66,11 @@ fn lengths_that_do_not_fit_the_state() {
                 for into in borders {
                     let mut state = State { at, line, count, into, ..opened };
                     state.sizes = [count; MOST_STASHES];
-                    let answer = plain::call(list, areas.reborrow(), b"", state);
+                    let called = plain::call(list, areas.reborrow(), b"", &mut state);
                     let fits = (at, line) == (8, 5) || (at, line) == (18, 6);
                     let held = count == 0 || count == 1;
                     let inside = into == 0 || (at == 8 && into < BLOCK);
-                    assert_eq!(answer.outcome.number() != 17, fits && held && inside, "{at} {line} {count} {into}");
+                    assert_eq!(called.outcome.number() != 17, fits && held && inside, "{at} {line} {count} {into}");
                 }
             }
         }

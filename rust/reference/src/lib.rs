@@ -127,7 +127,7 @@ impl Outcome {
     }
 }
 
-/// What a call gives back.
+/// How a call ended, and the state after it.
 #[derive(Clone, Copy, PartialEq, Eq, Debug)]
 pub struct Answer {
     pub state: State,

@@ -104,9 +104,8 @@ impl Side for Plain {
     }
     fn call(list: &[u8], areas: Areas, piece: &[u8], state: &mut reference::State) -> (Outcome, usize) {
         let Areas { image, stash, work, result, patch } = areas;
-        let answer = plain::call(list, reference::Areas { image, stash, work, result, patch }, piece, *state);
-        *state = answer.state;
-        (answer.outcome, answer.taken)
+        let called = plain::call(list, reference::Areas { image, stash, work, result, patch }, piece, state);
+        (called.outcome, called.taken)
     }
     fn load_sparse(file: &[u8], image: &mut [u8]) -> Result<(), usize> {
         plain::load_sparse(file, image)

@@ -7,7 +7,7 @@ use check::generate::patch::{patch_of, Record};
 use check::generate::sparse::{Chunk, SparseFile, DONT_CARE, FILL, RAW};
 use check::generate::{Blocks, Rng, Sizes, World};
 use check::{hex, Implementation, Library, Model, Plain};
-use reference::{digest, plain, Answer, Areas, Outcome, Rooms, State, BLOCK, MOST_AREA, MOST_IMAGE, MOST_RESULT, MOST_STASHES};
+use reference::{digest, Answer, Areas, Outcome, Rooms, State, BLOCK, MOST_AREA, MOST_IMAGE, MOST_RESULT, MOST_STASHES};
 use std::time::{Duration, Instant};
 
 fn main() {
@@ -80,7 +80,7 @@ fn real(other: &dyn Implementation, seed: u64, commands: usize) -> Result<(), St
     let mut timed = |which: usize, start: Instant| times[which] += start.elapsed();
 
     let start = Instant::now();
-    let mut state = plain::open(&list, ours.rooms());
+    let mut state = Plain.open(&list, ours.rooms());
     timed(0, start);
     let start = Instant::now();
     let opened = other.open(&list, ours.rooms());
@@ -95,7 +95,7 @@ fn real(other: &dyn Implementation, seed: u64, commands: usize) -> Result<(), St
         rest = after;
         calls += 1;
         let start = Instant::now();
-        let answer = plain::call(&list, ours.reborrow(), piece, state);
+        let answer = Plain.call(&list, ours.reborrow(), piece, state);
         timed(0, start);
         let start = Instant::now();
         let others = other.call(&list, theirs.reborrow(), piece, state);

@@ -7,8 +7,8 @@ mod sparse;
 use crate::coverage::Coverage;
 use crate::generate::{Blocks, Pieces};
 use crate::guard::Guarded;
-use crate::{hex, Implementation};
-use reference::{plain, Answer, Areas, Rooms, State, BLOCK};
+use crate::{hex, Implementation, Plain};
+use reference::{Answer, Areas, Rooms, State, BLOCK};
 pub use sparse::SparseChecker;
 use std::fmt::Write;
 
@@ -145,7 +145,7 @@ impl<'a> Checker<'a> {
 
     fn open(&mut self, list: &[u8], rooms: Rooms) -> Result<State, String> {
         self.list.set(list, self.behind);
-        let ours = plain::open(list, rooms);
+        let ours = Plain.open(list, rooms);
         let theirs = self.other.open(self.list.bytes(), rooms);
         self.coverage.open(list, rooms, &ours);
         self.note(|| {
@@ -193,7 +193,7 @@ impl<'a> Checker<'a> {
             format!("call: {}\n  piece {}\n{text}\n  state {}", lent.text(), hex(piece), state_text(&state))
         });
         let (list, areas) = lent.areas();
-        let ours = plain::call(list, areas, piece, state);
+        let ours = Plain.call(list, areas, piece, state);
         let (other, list, areas, others_piece) = self.others();
         let theirs = other.call(list, areas, others_piece, state);
         let (list, areas) = lent.areas();
@@ -247,7 +247,7 @@ impl<'a> Checker<'a> {
         self.list.set(&lent.list, self.behind);
         self.piece.set(data, self.behind);
         let (list, areas) = fresh.areas();
-        let ours = plain::run(list, areas, data, cuts);
+        let ours = Plain.run(list, areas, data, cuts);
         let (other, list, areas, others_data) = self.others();
         let theirs = other.run(list, areas, others_data, cuts);
         self.coverage.runs += 1;

@@ -40,15 +40,14 @@ fn main() {
     let mut rest = &new[..];
     loop {
         let (piece, after) = rest.split_at(rest.len().min(BLOCK));
-        let answer = call(&list, areas.reborrow(), piece, state);
-        total += answer.taken;
-        state = answer.state;
+        let called = call(&list, areas.reborrow(), piece, &mut state);
+        total += called.taken;
         rest = after;
-        if answer.outcome == Outcome::More && !rest.is_empty() {
+        if called.outcome == Outcome::More && !rest.is_empty() {
             continue;
         }
         fs::write(IMAGE, &*areas.image).expect("the image cannot be written");
-        match answer.outcome {
+        match called.outcome {
             Outcome::Done => println!("done {total}"),
             Outcome::More => println!("more {total}"),
             Outcome::Refused(Refusal { number, line }) => println!("refused {number} {line}"),

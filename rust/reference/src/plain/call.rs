@@ -6,19 +6,26 @@ use super::text::Set;
 use super::{header, open, patch, Header};
 use crate::{digest, Answer, Areas, Lengths, Outcome, Refusal, State, BLOCK, MOST_STASHES};
 
-/// One call with one piece of new data.
-pub fn call(list: &[u8], mut areas: Areas, piece: &[u8], state: State) -> Answer {
+/// How a call ended, and the bytes of the piece that it took.
+#[derive(Clone, Copy, PartialEq, Eq, Debug)]
+pub struct Called {
+    pub outcome: Outcome,
+    pub taken: usize,
+}
+
+/// One call with one piece of new data; the state is changed where it lies.
+pub fn call(list: &[u8], mut areas: Areas, piece: &[u8], state: &mut State) -> Called {
     if state.refusal.number != 0 {
-        return refused(state, state.refusal, 0);
+        return refused(state.refusal, 0);
     }
-    match possible(list, &Lengths::of(list, areas.rooms()), &state) {
+    match possible(list, &Lengths::of(list, areas.rooms()), state) {
         Some(header) => run_lines(list, &header, &mut areas, piece, state),
-        None => refused(state, Refusal { number: 17, line: 0 }, 0),
+        None => refused(Refusal { number: 17, line: 0 }, 0),
     }
 }
 
-fn refused(state: State, refusal: Refusal, taken: usize) -> Answer {
-    Answer { state, outcome: Outcome::Refused(refusal), taken }
+fn refused(refusal: Refusal, taken: usize) -> Called {
+    Called { outcome: Outcome::Refused(refusal), taken }
 }
 
 /// The header where 17 does not apply.
@@ -59,14 +66,14 @@ fn possible(list: &[u8], lengths: &Lengths, state: &State) -> Option<Header> {
     Some(header)
 }
 
-fn run_lines(list: &[u8], header: &Header, areas: &mut Areas, piece: &[u8], mut state: State) -> Answer {
+fn run_lines(list: &[u8], header: &Header, areas: &mut Areas, piece: &[u8], state: &mut State) -> Called {
     let lengths = state.lengths;
     let mut marks = Marks::new();
     let mut taken = 0;
     while state.at < list.len() {
         let outcome = match decode(list, state.at) {
-            Ok((command, next)) => match check(list, header, &lengths, &state, &mut marks, &command) {
-                Ok(()) => run_command(list, areas, piece, &mut state, &mut taken, &command).map(|going| (going, next)),
+            Ok((command, next)) => match check(list, header, &lengths, state, &mut marks, &command) {
+                Ok(()) => run_command(list, areas, piece, state, &mut taken, &command).map(|going| (going, next)),
                 Err(number) => Err(number),
             },
             Err(number) => Err(number),
@@ -76,14 +83,14 @@ fn run_lines(list: &[u8], header: &Header, areas: &mut Areas, piece: &[u8], mut 
                 state.at = next;
                 state.line += 1;
             }
-            Ok((false, _)) => return Answer { state, outcome: Outcome::More, taken },
+            Ok((false, _)) => return Called { outcome: Outcome::More, taken },
             Err(number) => {
                 state.refusal = Refusal { number, line: state.line };
-                return refused(state, state.refusal, taken);
+                return refused(state.refusal, taken);
             }
         }
     }
-    Answer { state, outcome: Outcome::Done, taken }
+    Called { outcome: Outcome::Done, taken }
 }
 
 /// Runs a checked command: true when the line is finished, false when it needs another byte.
@@ -197,19 +204,19 @@ fn gather(list: &[u8], areas: &mut Areas, state: &State, line: &Move) -> Result<
 
 /// Opens, then calls with pieces of data of the given lengths, cut short where data ends, and a last piece with the rest.
 pub fn run(list: &[u8], mut areas: Areas, data: &[u8], cuts: &[usize]) -> Answer {
-    let state = open(list, areas.rooms());
+    let mut state = open(list, areas.rooms());
     if state.refusal.number != 0 {
-        return refused(state, state.refusal, 0);
+        return Answer { state, outcome: Outcome::Refused(state.refusal), taken: 0 };
     }
-    let mut answer = Answer { state, outcome: Outcome::More, taken: 0 };
-    let mut rest = data;
+    let mut outcome = Outcome::More;
     let mut taken = 0;
+    let mut rest = data;
     for cut in cuts.iter().copied().chain([usize::MAX]) {
         let (piece, after) = rest.split_at(cut.min(rest.len()));
-        answer = call(list, areas.reborrow(), piece, answer.state);
-        taken += answer.taken;
+        let called = call(list, areas.reborrow(), piece, &mut state);
+        outcome = called.outcome;
+        taken += called.taken;
         rest = after;
     }
-    answer.taken = taken;
-    answer
+    Answer { state, outcome, taken }
 }

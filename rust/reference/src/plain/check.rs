@@ -5,12 +5,22 @@ use super::text::Set;
 use super::Header;
 use crate::{Lengths, State, BLOCK, MOST_AREA};
 
-/// Which places of a source are taken. It is lent from line to line, and each line clears the part that it needs.
-pub(super) struct Marks([bool; MOST_AREA]);
+/// Which places of a source are taken. The first line that needs them makes them; each later one clears as many as it needs.
+pub(super) struct Marks(Option<[bool; MOST_AREA]>);
 
 impl Marks {
     pub(super) fn new() -> Marks {
-        Marks([false; MOST_AREA])
+        Marks(None)
+    }
+
+    /// So many, none taken.
+    fn clear(&mut self, n: usize) -> &mut [bool] {
+        let marks = match &mut self.0 {
+            Some(marks) => marks,
+            none => none.insert([false; MOST_AREA]),
+        };
+        marks[..n].fill(false);
+        &mut marks[..n]
     }
 }
 
@@ -85,8 +95,7 @@ fn check_source(list: &[u8], rooms: (u64, u64, u64), held: &State, marks: &mut M
         return Ok(());
     }
     // The places are N by now, and N is within the work area.
-    let marks = &mut marks.0[..line.n as usize];
-    marks.fill(false);
+    let marks = marks.clear(line.n as usize);
     if let Some(set) = line.places {
         mark(list, &set, marks)?;
     }
@@ -97,11 +106,13 @@ fn check_source(list: &[u8], rooms: (u64, u64, u64), held: &State, marks: &mut M
 }
 
 fn mark(list: &[u8], set: &Set, marks: &mut [bool]) -> Result<(), usize> {
-    for place in set.each(list) {
-        if place >= marks.len() || marks[place] {
-            return Err(12);
+    for (start, end) in set.pairs(list) {
+        for place in start..end {
+            if place >= marks.len() || marks[place] {
+                return Err(12);
+            }
+            marks[place] = true;
         }
-        marks[place] = true;
     }
     Ok(())
 }

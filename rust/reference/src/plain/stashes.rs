@@ -7,14 +7,13 @@ impl State {
         self.count.min(MOST_STASHES)
     }
 
-    /// Of fixed length: two are compared at once.
-    pub(super) fn hash(&self, k: usize) -> Option<&Hash> {
-        self.hashes[20 * k..].first_chunk()
+    pub(super) fn hash(&self, k: usize) -> &[u8] {
+        &self.hashes[20 * k..20 * k + 20]
     }
 
     /// Which of the held stashes has this hash.
     pub(super) fn find(&self, hash: &Hash) -> Option<usize> {
-        (0..self.held()).find(|k| self.hash(*k) == Some(hash))
+        (0..self.held()).find(|k| self.hash(*k) == hash)
     }
 
     /// The blocks of the first n stashes together.

@@ -1,5 +1,5 @@
 -- Document 01, refusal 12, checked in one pass over the places of a put-together source: each place has a mark that says whether it is
--- taken, a bit of the bytes that are lent for them. For the proofs of the code alone.
+-- taken, a bit of the bytes that are lent for them. It is how the code checks, and no rule: what 12 is stands in `rules`.
 -- Assumes nothing: these are definitions.
 use Prim.Native.Nat.{ℕ, _+_, _*_, _/_, _%_, _^_, min}
 use mathlib.Core.Bool.{Bool}

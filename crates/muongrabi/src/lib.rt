@@ -90,7 +90,8 @@ pub extern "C" fn muongrabi_open(
     transfer_list::open(list, image, stash, work, result, patch)
 }
 
-// One call with one piece of new data. The tables of the stashes are lent with the rest of the state, and are then the state's after it.
+// One call with one piece of new data. The tables of the stashes are lent, and are those of the state after it then; the rest of the state
+// goes in and out by value.
 #[no_mangle]
 pub extern "C" fn muongrabi_call(
     list: &[u8],

@@ -78,7 +78,7 @@ pub fn next_block(s: &[u8], w: Walk) -> Step
     )
 }
 
-// The walk past the blocks that are left of the range at hand, for who takes them all at once.
+// The walk past the blocks that are left of the range at hand, for a caller that takes them all at once.
 pub fn past_range(w: Walk) -> Walk
     ensures { λ r. ⌜ r ≡ pastRange w ⌝ }
 {

@@ -100,7 +100,7 @@ pub fn call_in_place(
             taken: 0,
         };
     }
-    // As slices the tables have lengths that are known.
+    // For the proof alone: as slices the tables have lengths that are known.
     let table = &hashes[..];
     let blocks = &sizes[..];
     let terms = terms_for(list, lengths);

@@ -15,7 +15,7 @@ use lib.Seq.{drop-cons, append-snoc, set-at, getD-set-same, getD-set-other}
 use lib.Dec.{ltb, eqb}
 use borrow.Author.Tests.{ltb-true, ltb-false, lt-ltb, le-ltb, eqb-true, eqb-false, eq-eqb, ne-eqb}
 use Rattle.text.specs.Choice.{both, no}
-use Rattle.text.proofs.ChoiceLaws.{both-true}
+use Rattle.text.proofs.ChoiceLaws.{both-true, no-true, no-false}
 use Rattle.marks.specs.Marks.{placesPerByte, rowOf, bitOf, markAt, isTaken, isFree, taking, cleared}
 
 -- ---- bits of a number b to which 2 ^ k is added where its bit k is 0: there is no carry
@@ -75,18 +75,10 @@ module _ (marks : List ℕ) (p : ℕ) where
 
   pub free-not-taken : isFree marks p ≡ true → isTaken marks p ≡ false
   unfolding isFree
-  free-not-taken e = go (isTaken marks p) (both-true (ltb p (placesPerByte * length marks)) (no (isTaken marks p)) e .1)
-    where
-      go : (t : Bool) → no t ≡ true → t ≡ false
-      go true e = sym e
-      go false e = refl
+  free-not-taken e = no-true (isTaken marks p) (both-true (ltb p (placesPerByte * length marks)) (no (isTaken marks p)) e .1)
 
   pub not-free-taken : p < placesPerByte * length marks → isFree marks p ≡ false → isTaken marks p ≡ true
-  not-free-taken h e = go (isTaken marks p) (sym (free-is h) ∙ e)
-    where
-      go : (t : Bool) → no t ≡ false → t ≡ true
-      go true e = refl
-      go false e = sym e
+  not-free-taken h e = no-false (isTaken marks p) (sym (free-is h) ∙ e)
 
   -- the bit of a place that is not taken, and what the bit says of the place
   bit-clear : isTaken marks p ≡ false → markAt marks p ≡ 0

@@ -13,6 +13,7 @@ use crate::sourced::read_target;
 use crate::word::HashWord;
 use crate::word::RangeWord;
 use crate::word::Word;
+use crate::word::word_fault;
 use crate::word::word_of;
 use ranges::RangeSet;
 use ranges::Ranges;
@@ -21,6 +22,7 @@ use text::expected::read_expected;
 use text::hash::HASH_BYTES;
 
 mod bsdiff;
+pub mod faults;
 pub mod field;
 pub mod parts;
 pub mod patching;
@@ -139,6 +141,6 @@ pub fn read_command(l: &[u8]) -> Line
         Word::Hash(word) => hashed_line(l, word),
         Word::Bsdiff => bsdiff_line(l),
         Word::Imgdiff => without_hash(Command::Unsupported),
-        Word::Unknown => without_hash(Command::Bad(0)),
+        Word::Unknown => without_hash(Command::Bad(word_fault(l))),
     }
 }

@@ -23,7 +23,7 @@ pub struct Part {
 }
 
 // Where the first `H:L` stands, or the position of the fault.
-pub(crate) enum PartsRead {
+pub enum PartsRead {
     Good(usize),
     Bad(usize),
 }

@@ -21,7 +21,7 @@ pub enum Source {
     },
 }
 
-pub(crate) enum SourceRead {
+pub enum SourceRead {
     Good(Source),
     Bad(usize),
 }

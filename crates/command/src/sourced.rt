@@ -12,7 +12,7 @@ use ranges::Ranges;
 use text::number::Number;
 
 // What a source is put together for.
-pub(crate) enum Purpose {
+pub enum Purpose {
     Move,
     Bsdiff,
 }

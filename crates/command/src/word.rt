@@ -1,24 +1,25 @@
 // The word that a line starts with.
 ghost use mathlib.Core.Path.{_≡_};
 ghost use lib.ListN.{length};
-ghost use Rattle.command.specs.Words.{rangeWord, hashWord, wordOf};
+ghost use Prim.Native.Nat.{max};
+ghost use Rattle.command.specs.Words.{rangeWord, hashWord, wordOf, shared, wordFault};
 use text::word::first_word_is;
 
 // A word that a range set follows.
-pub(crate) enum RangeWord {
+pub enum RangeWord {
     Zero,
     Erase,
     New,
 }
 
 // A word that a hash follows.
-pub(crate) enum HashWord {
+pub enum HashWord {
     Move,
     Stash,
     Free,
 }
 
-pub(crate) enum Word {
+pub enum Word {
     Ranges(RangeWord),
     Hash(HashWord),
     Bsdiff,
@@ -78,4 +79,42 @@ pub(crate) fn word_of(l: &[u8]) -> Word
         return Word::Imgdiff;
     }
     Word::Unknown
+}
+
+fn larger(a: usize, b: usize) -> usize
+    ensures { λ r. ⌜ r ≡ max a b ⌝ }
+{
+    if a < b {
+        return b;
+    }
+    a
+}
+
+// How many of a line's first bytes are those of a word.
+fn shared_bytes(l: &[u8], word: &[u8]) -> usize
+    ensures { λ r. ⌜ r ≡ shared (now (word .entry)) (now (l .entry)) ⌝ }
+{
+    let mut k = 0;
+    while k < word.len() {
+        if l.len() <= k {
+            return k;
+        }
+        if l[k] != word[k] {
+            return k;
+        }
+        k += 1;
+    }
+    k
+}
+
+// The first byte of a line at which none of the words of good lines could go on.
+pub(crate) fn word_fault(l: &[u8]) -> usize
+    ensures { λ r. ⌜ r ≡ wordFault (now (l .entry)) ⌝ }
+{
+    let after = larger(shared_bytes(l, b"free"), shared_bytes(l, b"bsdiff"));
+    let after = larger(shared_bytes(l, b"stash"), after);
+    let after = larger(shared_bytes(l, b"move"), after);
+    let after = larger(shared_bytes(l, b"new"), after);
+    let after = larger(shared_bytes(l, b"erase"), after);
+    larger(shared_bytes(l, b"zero"), after)
 }

@@ -1,4 +1,4 @@
--- Document 01, "Calls", last paragraph: the line that the program prints.
+-- Document 01, "Calls", last paragraph, and document 02, R-6: the line that the program prints.
 -- Assumes nothing: these are definitions.
 use Prim.Native.Nat.{ℕ, zero, suc, _/_, _%_}
 use mathlib.Core.Path.{_≡_, refl}
@@ -7,6 +7,8 @@ use lib.ListN.{length, drop, replicate}
 use lib.Dec.{ltb}
 use Rattle.io.specs.Digits.{glyph}
 use Rattle.text.specs.Choice.{pick}
+use Rattle.state.specs.Refusals.{hasByte}
+use Rattle.state.specs.declared.Refusal.{Refusal}
 use Rattle.updater.specs.declared.Outcome.{Outcome}
 use Rattle.updater.specs.declared.Outcome.the-variants.{Done, More, Refused}
 use Rattle.decisions.specs.declared.answer.Line.{Line}
@@ -40,11 +42,22 @@ numberLine word n = word ++ (decimal n ++ (10 ∷ []))
 abbrev pub refusedLine : ℕ → ℕ → List ℕ
 refusedLine number line = refusedWord ++ (decimal number ++ ((32 ∷ []) ++ (decimal line ++ (10 ∷ []))))
 
--- `done T`, `more T` or `refused K L`
+-- R-6: 3 and 6 have the byte of their fault as a last field
+abbrev pub faultLine : ℕ → ℕ → ℕ → List ℕ
+faultLine number line byte =
+    refusedWord ++ (decimal number ++ ((32 ∷ []) ++ (decimal line ++ ((32 ∷ []) ++ (decimal byte ++ (10 ∷ []))))))
+
+-- `refused K L P` or `refused K L`
+unfoldable pub refusalLine : Refusal → List ℕ
+refusalLine refusal =
+    pick (hasByte (refusal .number)) (faultLine (refusal .number) (refusal .line) (refusal .byte))
+    (refusedLine (refusal .number) (refusal .line))
+
+-- `done T`, `more T` or a refusal
 abbrev pub answerLine : Outcome → ℕ → List ℕ
 answerLine Done taken = numberLine doneWord taken
 answerLine More taken = numberLine moreWord taken
-answerLine (Refused refusal) taken = refusedLine (refusal .number) (refusal .line)
+answerLine (Refused refusal) taken = refusalLine refusal
 
 -- the most digits of a 64-bit number
 abbrev pub mostDigits : ℕ
@@ -54,9 +67,9 @@ mostDigits = 20
 abbrev pub startingWith : List ℕ → List ℕ → List ℕ
 startingWith text buf = text ++ drop (length text) buf
 
--- no line is longer than 50 bytes
+-- no line is longer than 71 bytes
 abbrev pub zeros : List ℕ
-zeros = replicate 50 0
+zeros = replicate 71 0
 
 -- a line at the start of zeros
 unfoldable pub lineOf : List ℕ → Line

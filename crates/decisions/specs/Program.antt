@@ -6,7 +6,8 @@ use mathlib.Core.List.{List}
 use lib.Dec.{eqb, leb}
 use Rattle.text.specs.Choice.{pick, both, no}
 use Rattle.state.specs.Limits.{blockBytes}
-use Rattle.state.specs.Refusals.{none, areaSize, listLength}
+use Rattle.state.specs.Refusals.{areaSize, listLength}
+use Rattle.state.specs.States.{refusing, noRefusal}
 use Rattle.state.specs.declared.Refusal.{Refusal}
 use Rattle.state.specs.declared.State.{State}
 use Rattle.transfer_list.specs.Opening.{lengthsOf, openState}
@@ -47,9 +48,9 @@ isImage bytes = both (eqb (bytes % blockBytes) 0) (leb bytes mostImage)
 -- 1 for an image that is larger or not whole blocks, else 2 for a list that is longer, each with line 0; else none
 abbrev pub sizeRefusal : ℕ → ℕ → Refusal
 sizeRefusal list image =
-    pick (no (isImage image)) (record { number = areaSize; line = 0 })
-    (pick (no (leb list mostList)) (record { number = listLength; line = 0 })
-    (record { number = none; line = 0 }))
+    pick (no (isImage image)) (refusing areaSize 0)
+    (pick (no (leb list mostList)) (refusing listLength 0)
+    noRefusal)
 
 -- the list is opened over areas of 3 blocks each, and patch data
 abbrev pub openedWith : List ℕ → ℕ → ℕ → State

@@ -4,12 +4,16 @@ ghost use mathlib.Core.Path.{_≡_};
 ghost use lib.ListN.{length};
 ghost use lib.Seq.{paste};
 ghost use Rattle.io.specs.Counts.{Counts};
-ghost use Rattle.decisions.specs.Answer.{decimal, mostDigits, refusedWord, numberLine, refusedLine, answerLine, lineOf};
+ghost use Rattle.state.specs.Refusals.{hasByte};
+ghost use Rattle.decisions.specs.Answer.{decimal, mostDigits, refusedWord, numberLine, refusedLine, faultLine, refusalLine, answerLine, lineOf};
 ghost use Rattle.decisions.specs.Loading.{loadLine};
+use state::Refusal;
+use state::refusals::HEADER_FORM;
+use state::refusals::LINE_FORM;
 use updater::Outcome;
 
-// `refused `, two numbers, the space between them and an LF.
-const LINE_BYTES: usize = 50;
+// `refused `, three numbers, the spaces between them and an LF.
+const LINE_BYTES: usize = 71;
 
 // A line at the start of a buffer, with zeros past it.
 pub struct Line {
@@ -66,6 +70,41 @@ fn refused_line(number: usize, line: usize) -> Line
     Line { bytes, length }
 }
 
+// A refusal with the byte of its fault.
+fn fault_line(number: usize, line: usize, byte: usize) -> Line
+    ensures { λ r. ⌜ r ≡ lineOf (faultLine number line byte) ⌝ }
+    ensures { λ r. ⌜ Counts (r .length) (r .bytes) ⌝ }
+{
+    let mut bytes = [0u8; LINE_BYTES];
+    let a = put(&mut bytes, 0, b"refused ");
+    let b = put_decimal(&mut bytes, a, number as u64);
+    let c = put(&mut bytes, b, b" ");
+    let d = put_decimal(&mut bytes, c, line as u64);
+    let e = put(&mut bytes, d, b" ");
+    let f = put_decimal(&mut bytes, e, byte as u64);
+    let length = put(&mut bytes, f, b"\n");
+    Line { bytes, length }
+}
+
+fn has_byte(number: usize) -> bool
+    ensures { λ r. ⌜ r ≡ hasByte number ⌝ }
+{
+    if number == HEADER_FORM {
+        return true;
+    }
+    number == LINE_FORM
+}
+
+fn refusal_line(refusal: Refusal) -> Line
+    ensures { λ r. ⌜ r ≡ lineOf (refusalLine refusal) ⌝ }
+    ensures { λ r. ⌜ Counts (r .length) (r .bytes) ⌝ }
+{
+    if has_byte(refusal.number) {
+        return fault_line(refusal.number, refusal.line, refusal.byte);
+    }
+    refused_line(refusal.number, refusal.line)
+}
+
 // What is printed for an outcome and all bytes taken.
 pub fn answer_line(outcome: Outcome, taken: u64) -> Line
     ensures { λ r. ⌜ r ≡ lineOf (answerLine outcome taken) ⌝ }
@@ -74,7 +113,7 @@ pub fn answer_line(outcome: Outcome, taken: u64) -> Line
     match outcome {
         Outcome::Done => number_line(b"done ", taken),
         Outcome::More => number_line(b"more ", taken),
-        Outcome::Refused(refusal) => refused_line(refusal.number, refusal.line),
+        Outcome::Refused(refusal) => refusal_line(refusal),
     }
 }
 

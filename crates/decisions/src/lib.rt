@@ -41,15 +41,21 @@ pub fn size_refusal(list: usize, image: usize) -> Refusal
         return Refusal {
             number: AREA_SIZE,
             line: 0,
+            byte: 0,
         };
     }
     if !list_fits {
         return Refusal {
             number: LIST_LENGTH,
             line: 0,
+            byte: 0,
         };
     }
-    Refusal { number: 0, line: 0 }
+    Refusal {
+        number: 0,
+        line: 0,
+        byte: 0,
+    }
 }
 
 // The bytes of patch data that a patch file of that length gives.

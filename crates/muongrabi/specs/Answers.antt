@@ -29,6 +29,12 @@ refusalLine Done = 0
 refusalLine More = 0
 refusalLine (Refused refusal) = refusal .line
 
+-- the byte that is reported of it; 0 where nothing is refused
+abbrev pub refusalByte : Outcome → ℕ
+refusalByte Done = 0
+refusalByte More = 0
+refusalByte (Refused refusal) = refusal .byte
+
 abbrev pub answerOf : Progress → Outcome → ℕ → Answer
 answerOf progress outcome taken =
     record {
@@ -36,6 +42,7 @@ answerOf progress outcome taken =
       outcome = outcomeNumber outcome;
       number = refusalNumber outcome;
       line = refusalLine outcome;
+      byte = refusalByte outcome;
       taken = taken;
     }
 
@@ -46,6 +53,7 @@ pub record Answered : Type 0 where
   pub outcome : ℕ
   pub number : ℕ
   pub line : ℕ
+  pub byte : ℕ
   pub taken : ℕ
 
 -- with the tables of hashes and of sizes as the call left them
@@ -57,6 +65,7 @@ answeredOf areas hashes sizes answer =
       outcome = answer .outcome;
       number = answer .number;
       line = answer .line;
+      byte = answer .byte;
       taken = answer .taken;
     }
 
@@ -69,5 +78,6 @@ answered r =
       outcome = outcomeNumber (r .called .outcome);
       number = refusalNumber (r .called .outcome);
       line = refusalLine (r .called .outcome);
+      byte = refusalByte (r .called .outcome);
       taken = r .called .taken;
     }

@@ -19,15 +19,16 @@ use state::limits::TABLE_BYTES;
 use updater::Outcome;
 use updater::call_in_place;
 
-const ABI: usize = 3;
+const ABI: usize = 4;
 
-// What a call answers besides the tables of the stashes. An outcome is a number: 0 done, 1 more, 2 refused with a number and a line.
+// What a call answers besides the tables of the stashes. An outcome is a number: 0 done, 1 more, 2 refused with a number, a line and a byte.
 #[repr(C)]
 pub struct Answer {
     pub progress: Progress,
     pub outcome: usize,
     pub number: usize,
     pub line: usize,
+    pub byte: usize,
     pub taken: usize,
 }
 
@@ -40,6 +41,7 @@ fn to_answer(progress: Progress, outcome: Outcome, taken: usize) -> Answer
             outcome: 0,
             number: 0,
             line: 0,
+            byte: 0,
             taken,
         },
         Outcome::More => Answer {
@@ -47,6 +49,7 @@ fn to_answer(progress: Progress, outcome: Outcome, taken: usize) -> Answer
             outcome: 1,
             number: 0,
             line: 0,
+            byte: 0,
             taken,
         },
         Outcome::Refused(refusal) => Answer {
@@ -54,6 +57,7 @@ fn to_answer(progress: Progress, outcome: Outcome, taken: usize) -> Answer
             outcome: 2,
             number: refusal.number,
             line: refusal.line,
+            byte: refusal.byte,
             taken,
         },
     }
@@ -61,7 +65,7 @@ fn to_answer(progress: Progress, outcome: Outcome, taken: usize) -> Answer
 
 // The ABI's number. The name has it too, so that what was built for another one does not link.
 #[no_mangle]
-pub extern "C" fn muongrabi_abi_3() -> usize
+pub extern "C" fn muongrabi_abi_4() -> usize
     ensures { λ r. ⌜ r ≡ abi ⌝ }
 {
     ABI

@@ -1,4 +1,5 @@
-// Opens the lists that standard input describes, and prints for each whether it is accepted, or the number and the line of its refusal.
+// Opens the lists that standard input describes, and prints for each whether it is accepted, or the number, the line and the byte of its
+// refusal.
 // A line of input is one of these; any other, as a comment, is passed over:
 //   case LABEL                             a new list over an image of 8 blocks, areas of 3 and no patch data
 //   areas IMAGE STASH WORK RESULT PATCH    other lengths, in bytes
@@ -33,6 +34,8 @@ fn say_opened(list: &[u8], l: Lengths) {
     io::print_decimal(STDOUT_FILENO, refusal.number as u64);
     say(b" ");
     io::print_decimal(STDOUT_FILENO, refusal.line as u64);
+    say(b" ");
+    io::print_decimal(STDOUT_FILENO, refusal.byte as u64);
     say(b"\n");
 }
 

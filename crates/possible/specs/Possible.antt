@@ -59,7 +59,7 @@ unfoldable pub canBeInto : List ℕ → Terms → ℕ → ℕ → Bool
 canBeInto s terms at into = either (eqb into 0) (hasMore terms into (commandOf (lineAt s at) .command))
 
 unfoldable pub possibleUnder : List ℕ → Lengths → HeaderRead → State → Bool
-possibleUnder s lengths (header.Bad line) state = false
+possibleUnder s lengths (header.Bad line byte) state = false
 possibleUnder s lengths (header.Good h) state =
     both (atLine s h (state .line) (state .at))
     (both (canHold h (tableOf state))
@@ -74,7 +74,7 @@ isPossible s lengths state =
 
 unfoldable pub termsUnder : Lengths → HeaderRead → Terms
 termsUnder lengths (header.Good h) = termsOf lengths h
-termsUnder lengths (header.Bad line) = record { image = 0; work = 0; result = 0; patch = 0; stashes = 0; blocks = 0 }
+termsUnder lengths (header.Bad line byte) = record { image = 0; work = 0; result = 0; patch = 0; stashes = 0; blocks = 0 }
 
 -- what lines are checked against in a run
 unfoldable pub termsFor : List ℕ → Lengths → Terms

@@ -134,7 +134,7 @@ pub fn is_possible<'a>(
         return false;
     }
     match read_header(list) {
-        HeaderRead::Bad(_) => false,
+        HeaderRead::Bad { line: _, byte: _ } => false,
         HeaderRead::Good(h) => {
             if !is_at_line(list, h, progress.line, progress.at) {
                 return false;
@@ -153,7 +153,7 @@ pub fn terms_for(list: &[u8], lengths: Lengths) -> Terms
 {
     match read_header(list) {
         HeaderRead::Good(h) => terms_of(lengths, h),
-        HeaderRead::Bad(_) => Terms {
+        HeaderRead::Bad { line: _, byte: _ } => Terms {
             image: 0,
             work: 0,
             result: 0,

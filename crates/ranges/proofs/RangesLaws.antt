@@ -9,7 +9,9 @@ use lib.ListN.{length}
 use borrow.Author.Tests.{leb-true}
 use Rattle.text.specs.Choice.{pick}
 use Rattle.text.specs.Expected.{comma, stands}
-use Rattle.text.specs.Number.{numberAt, onNumber}
+use Rattle.text.specs.Number.{isCount, meets, numberFor, numberAt, onNumber}
+use Rattle.text.specs.declared.number.Need.{Need}
+use Rattle.text.specs.declared.number.Need.the-variants as need
 use Rattle.text.specs.declared.number.Number.{Number}
 use Rattle.text.specs.declared.number.Number.the-variants as number
 use Rattle.ranges.specs.declared.Pair.{Pair}
@@ -17,60 +19,59 @@ use Rattle.ranges.specs.declared.Pair.the-variants as pair
 use Rattle.ranges.specs.declared.RangeSet.{RangeSet}
 use Rattle.ranges.specs.declared.Ranges.{Ranges}
 use Rattle.ranges.specs.declared.Ranges.the-variants as ranges
-use Rattle.ranges.specs.Ranges.{Range, itemAt, isRange, pairAt, onPair, Parsed, ok, fault, follow, pairsAt, isCount, setAt, sizeOf, endOf, summary, rangesAt, onRanges}
-use Rattle.text.proofs.NumberLaws.{number-next}
+use Rattle.ranges.specs.Ranges.{Range, itemAt, pairAt, onPair, Parsed, ok, fault, follow, pairsAt, setAt, sizeOf, endOf, summary, rangesAt, onRanges}
+use Rattle.text.proofs.NumberLaws.{number-next, number-meets, number-any}
 
 -- a good item is a number past a comma
-item-good : (s : List ℕ) (at : ℕ) {v next : ℕ} → itemAt s at ≡ number.Good v next → numberAt s (at + 1) ≡ number.Good v next
-unfolding itemAt
-item-good s at {v} {next} = go (stands s at comma)
-  where
-    go : (t : Bool) → pick t (numberAt s (at + 1)) (number.Bad at) ≡ number.Good v next → numberAt s (at + 1) ≡ number.Good v next
-    go true e = e
-    go false e = absurd (let z : _≡_ {A = ℕ} 0 1 = cc in omega arith)
+module _ (n : Need) (s : List ℕ) (at : ℕ) {v next : ℕ} where
+  item-good : itemAt n s at ≡ number.Good v next → numberFor n s (at + 1) ≡ number.Good v next
+  unfolding itemAt
+  item-good = go (stands s at comma)
+    where
+      go : (t : Bool) → pick t (numberFor n s (at + 1)) (number.Bad at) ≡ number.Good v next → numberFor n s (at + 1) ≡ number.Good v next
+      go true e = e
+      go false e = absurd (let z : _≡_ {A = ℕ} 0 1 = cc in omega arith)
 
-pub item-next : (s : List ℕ) (at : ℕ) {v next : ℕ} → itemAt s at ≡ number.Good v next → (at < next) × (next ≤ length s)
-item-next s at e = let h = number-next s (at + 1) (item-good s at e) in (omega arith, h .1)
+  pub item-next : itemAt n s at ≡ number.Good v next → (at < next) × (next ≤ length s)
+  item-next e = let h = number-next s (at + 1) (number-any n s (at + 1) (item-good e)) in (omega arith, h .1)
 
--- a good pair is two good items, in order
+-- .. and one that is asked to be at least so much is
+item-least : (low : ℕ) (s : List ℕ) (at : ℕ) {v next : ℕ} → itemAt (need.AtLeast low) s at ≡ number.Good v next → low ≤ v
+unfolding meets
+item-least low s at {v} e = leb-true low v (number-meets (need.AtLeast low) s (at + 1) (item-good (need.AtLeast low) s at e))
+
+-- a good pair is two good items, the second at least the first
 record Items (s : List ℕ) (at start end next : ℕ) : Type 0 where
   middle : ℕ
-  first : itemAt s at ≡ number.Good start middle
-  second : itemAt s middle ≡ number.Good end next
-  order : start ≤ end
+  first : itemAt need.Any s at ≡ number.Good start middle
+  second : itemAt (need.AtLeast start) s middle ≡ number.Good end next
 
 pair-good : (s : List ℕ) (at : ℕ) {start end next : ℕ} → pairAt s at ≡ pair.Good start end next → Items s at start end next
 unfolding pairAt
-pair-good s at {start} {end} {next} = go (itemAt s at) refl
+pair-good s at {start} {end} {next} = go (itemAt need.Any s at) refl
   where
-    test : (a b i m : ℕ) (t : Bool) → itemAt s at ≡ number.Good a i → itemAt s i ≡ number.Good b m → isRange a b ≡ t →
-        pick t (pair.Good a b m) (pair.Bad i) ≡ pair.Good start end next → Items s at start end next
-    test a b i m true e f l g =
+    then : (a i : ℕ) (n : Number) → itemAt need.Any s at ≡ number.Good a i → itemAt (need.AtLeast a) s i ≡ n →
+        onNumber n (pair.Good a) pair.Bad ≡ pair.Good start end next → Items s at start end next
+    then a i (number.Good b m) e f g =
         let p : a ≡ start = cc in
-        let q : b ≡ end = cc in
-        record { middle = i; first = cc; second = cc; order = omega (arith, leb-true a b l) }
-    test a b i m false e f l g = absurd (let z : _≡_ {A = ℕ} 0 1 = cc in omega arith)
-
-    then : (a i : ℕ) (n : Number) → itemAt s at ≡ number.Good a i → itemAt s i ≡ n →
-        onNumber n (λ b m. pick (isRange a b) (pair.Good a b m) (pair.Bad i)) pair.Bad ≡ pair.Good start end next → Items s at start end next
-    then a i (number.Good b m) e f g = test a b i m (isRange a b) e f refl g
+        record { middle = i; first = cc; second = cc }
     then a i (number.Bad p) e f g = absurd (let z : _≡_ {A = ℕ} 0 1 = cc in omega arith)
 
-    go : (n : Number) → itemAt s at ≡ n →
-        onNumber n (λ a i. onNumber (itemAt s i) (λ b m. pick (isRange a b) (pair.Good a b m) (pair.Bad i)) pair.Bad) pair.Bad
-        ≡ pair.Good start end next → Items s at start end next
-    go (number.Good a i) e g = then a i (itemAt s i) e refl g
+    go : (n : Number) → itemAt need.Any s at ≡ n →
+        onNumber n (λ a i. onNumber (itemAt (need.AtLeast a) s i) (pair.Good a) pair.Bad) pair.Bad ≡ pair.Good start end next →
+        Items s at start end next
+    go (number.Good a i) e g = then a i (itemAt (need.AtLeast a) s i) e refl g
     go (number.Bad p) e g = absurd (let z : _≡_ {A = ℕ} 0 1 = cc in omega arith)
 
 module _ (s : List ℕ) (at : ℕ) {start end next : ℕ} (e : pairAt s at ≡ pair.Good start end next) where
   pub pair-order : start ≤ end
-  pair-order = pair-good s at e .order
+  pair-order = let i = pair-good s at e in item-least start s (i .middle) (i .second)
 
   pub pair-next : (at < next) × (next ≤ length s)
   pair-next =
       let i = pair-good s at e in
-      let h = item-next s at (i .first) in
-      let l = item-next s (i .middle) (i .second) in
+      let h = item-next need.Any s at (i .first) in
+      let l = item-next (need.AtLeast start) s (i .middle) (i .second) in
       (omega arith, l .1)
 
 -- good pairs are a good pair and good pairs
@@ -116,17 +117,12 @@ pub record Counted (s : List ℕ) (at : ℕ) (rs : List Range) (next : ℕ) : Ty
   pub pairs : pairsAt (count / 2) s from ≡ ok rs next
 
 pub set-good : (s : List ℕ) (at : ℕ) {rs : List Range} {next : ℕ} → setAt s at ≡ ok rs next → Counted s at rs next
-unfolding setAt
-set-good s at {rs} {next} = go (numberAt s at) refl
+unfolding setAt meets
+set-good s at {rs} {next} = go (numberFor need.Count s at) refl
   where
-    test : (v i : ℕ) (t : Bool) → numberAt s at ≡ number.Good v i → isCount v ≡ t →
-        pick t (pairsAt (v / 2) s i) (fault at) ≡ ok rs next → Counted s at rs next
-    test v i true e l g = record { count = v; from = i; number = e; even = l; pairs = g }
-    test v i false e l g = absurd (let z : _≡_ {A = ℕ} 0 1 = cc in omega arith)
-
-    go : (n : Number) → numberAt s at ≡ n →
-        onNumber n (λ v i. pick (isCount v) (pairsAt (v / 2) s i) (fault at)) fault ≡ ok rs next → Counted s at rs next
-    go (number.Good v i) e g = test v i (isCount v) e refl g
+    go : (n : Number) → numberFor need.Count s at ≡ n → onNumber n (λ v i. pairsAt (v / 2) s i) fault ≡ ok rs next → Counted s at rs next
+    go (number.Good v i) e g =
+        record { count = v; from = i; number = number-any need.Count s at e; even = number-meets need.Count s at e; pairs = g }
     go (number.Bad p) e g = absurd (let z : _≡_ {A = ℕ} 0 1 = cc in omega arith)
 
 -- what is kept of a good set

@@ -1,14 +1,14 @@
 -- Document 01, "The list text": a range set is a count, then that many numbers, all joined by commas. The count is even and at least 2.
 -- Each pair is start, end; the end is not included and is not below the start. An empty range is good. Ranges run in the written order
--- and may overlap.
+-- and may overlap. Document 02, R-6: a fault is at the first byte at which no range set could go on.
 -- Assumes nothing: these are definitions.
-use Prim.Native.Nat.{ℕ, zero, suc, _+_, _-_, _/_, _%_, max}
-use mathlib.Core.Bool.{Bool, false}
+use Prim.Native.Nat.{ℕ, zero, suc, _+_, _-_, _/_, max}
 use mathlib.Core.List.{List, [], _∷_, _++_}
-use lib.Dec.{leb, eqb}
 use Rattle.text.specs.Choice.{pick}
 use Rattle.text.specs.Expected.{comma, stands}
-use Rattle.text.specs.Number.{numberAt, onNumber}
+use Rattle.text.specs.Number.{numberFor, onNumber}
+use Rattle.text.specs.declared.number.Need.{Need}
+use Rattle.text.specs.declared.number.Need.the-variants as need
 use Rattle.text.specs.declared.number.Number.{Number}
 use Rattle.text.specs.declared.number.Number.the-variants as number
 use Rattle.ranges.specs.declared.Pair.{Pair}
@@ -23,18 +23,14 @@ pub record Range : Type 0 where
   pub end : ℕ
 
 -- a comma and a number
-unfoldable pub itemAt : List ℕ → ℕ → Number
-itemAt s at = pick (stands s at comma) (numberAt s (at + 1)) (number.Bad at)
+unfoldable pub itemAt : Need → List ℕ → ℕ → Number
+itemAt n s at = pick (stands s at comma) (numberFor n s (at + 1)) (number.Bad at)
 
--- the end is not below the start; an empty range is good
-abbrev pub isRange : ℕ → ℕ → Bool
-isRange start end = leb start end
-
--- a pair: start and end, each after a comma
+-- a pair: start and end, each after a comma; the end is not below the start
 unfoldable pub pairAt : List ℕ → ℕ → Pair
 pairAt s at =
-    onNumber (itemAt s at)
-    (λ start i. onNumber (itemAt s i) (λ end next. pick (isRange start end) (pair.Good start end next) (pair.Bad i)) pair.Bad)
+    onNumber (itemAt need.Any s at)
+    (λ start i. onNumber (itemAt (need.AtLeast start) s i) (pair.Good start) pair.Bad)
     pair.Bad
 
 abbrev pub onPair : {A : Type 0} → Pair → (ℕ → ℕ → ℕ → A) → (ℕ → A) → A
@@ -56,13 +52,9 @@ pairsAt zero s at = ok [] at
 pairsAt (suc n) s at =
     onPair (pairAt s at) (λ start end next. follow (record { start = start; end = end }) (pairsAt n s next)) fault
 
--- the count is even and at least 2
-abbrev pub isCount : ℕ → Bool
-isCount count = pick (eqb (count % 2) 0) (leb 2 count) false
-
--- the range set at a position
+-- the range set at a position: a count, and half as many pairs
 unfoldable pub setAt : List ℕ → ℕ → Parsed
-setAt s at = onNumber (numberAt s at) (λ count from. pick (isCount count) (pairsAt (count / 2) s from) (fault at)) fault
+setAt s at = onNumber (numberFor need.Count s at) (λ count from. pairsAt (count / 2) s from) fault
 
 -- how many blocks the ranges have: a block named twice counts twice
 unfoldable pub sizeOf : List Range → ℕ

@@ -1,8 +1,9 @@
 // Range sets.
 ghost use mathlib.Core.Path.{_≡_};
 ghost use Rattle.ranges.specs.Ranges.{itemAt, pairAt, rangesAt};
+use text::number::Need;
 use text::number::Number;
-use text::number::read_number;
+use text::number::read_number_for;
 
 pub mod walk;
 
@@ -26,8 +27,8 @@ pub enum Ranges {
 }
 
 // A comma and a number.
-fn read_item(s: &[u8], at: usize) -> Number
-    ensures { λ r. ⌜ r ≡ itemAt (now (s .entry)) at ⌝ }
+fn read_item(s: &[u8], at: usize, need: Need) -> Number
+    ensures { λ r. ⌜ r ≡ itemAt need (now (s .entry)) at ⌝ }
 {
     if s.len() <= at {
         return Number::Bad(at);
@@ -35,41 +36,29 @@ fn read_item(s: &[u8], at: usize) -> Number
     if s[at] != b',' {
         return Number::Bad(at);
     }
-    read_number(s, at + 1)
+    read_number_for(s, at + 1, need)
 }
 
 // One range, with a comma before each of its numbers.
 pub fn read_pair(s: &[u8], at: usize) -> Pair
     ensures { λ r. ⌜ r ≡ pairAt (now (s .entry)) at ⌝ }
 {
-    match read_item(s, at) {
+    match read_item(s, at, Need::Any) {
         Number::Bad(p) => Pair::Bad(p),
-        Number::Good(start, i) => match read_item(s, i) {
+        Number::Good(start, i) => match read_item(s, i, Need::AtLeast(start)) {
             Number::Bad(p) => Pair::Bad(p),
-            Number::Good(end, next) => {
-                if start <= end {
-                    Pair::Good { start, end, next }
-                } else {
-                    Pair::Bad(i)
-                }
-            }
+            Number::Good(end, next) => Pair::Good { start, end, next },
         },
     }
 }
 
-// The whole set, checked and measured.
+// The whole set, checked and measured. Its fault is the first byte at which no range set could go on.
 pub fn read_ranges(s: &[u8], at: usize) -> Ranges
     ensures { λ r. ⌜ r ≡ rangesAt (now (s .entry)) at ⌝ }
 {
-    match read_number(s, at) {
+    match read_number_for(s, at, Need::Count) {
         Number::Bad(p) => Ranges::Bad(p),
         Number::Good(count, from) => {
-            if count % 2 != 0 {
-                return Ranges::Bad(at);
-            }
-            if count < 2 {
-                return Ranges::Bad(at);
-            }
             let mut left = count / 2;
             let mut blocks: usize = 0;
             let mut last: u32 = 0;

@@ -2,3 +2,4 @@ pub mod BoundLaws
 pub mod PlaceLaws
 pub mod RuleLaws
 pub mod HeldLaws
+pub mod FormLaws

@@ -22,6 +22,8 @@ fn say_outcome(outcome: Outcome) {
             say_number(refusal.number);
             say(b" ");
             say_number(refusal.line);
+            say(b" ");
+            say_number(refusal.byte);
         }
     }
 }

@@ -45,6 +45,7 @@ fn with_refusal(s: State, line: &[u8]) -> State {
     let refusal = Refusal {
         number: number(line, 1),
         line: number(line, 2),
+        byte: number(line, 3),
     };
     let mut next = s;
     next.refusal = refusal;

@@ -11,3 +11,4 @@ pub mod ClaimLaws
 pub mod CutLaws
 pub mod RowLaws
 pub mod SampleLaws
+pub mod FaultLaws

@@ -122,7 +122,7 @@ lines-decided (suc n) s terms h line at stashes counted =
 commands-decided : (s : List ℕ) (lengths : Lengths) (h : HeaderRead) → Decided (commandsRefusal s lengths h)
 unfolding commandsRefusal
 commands-decided s lengths (Good h) = lines-decided (suc (length s)) s (termsOf lengths h) h firstLine (h .first) [] 0
-commands-decided s lengths (Bad line) = λ r. refl
+commands-decided s lengths (Bad line byte) = λ r. refl
 
 open-decided : (s : List ℕ) (lengths : Lengths) → Decided (openRefusal s lengths)
 unfolding openRefusal

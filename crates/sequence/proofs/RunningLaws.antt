@@ -84,9 +84,9 @@ record Stays (t u : State) : Type 0 where
   lengths : u .lengths ≡ t .lengths
   holds : held u ≡ held t
 
-stays-refused : (t : State) (number : ℕ) → Stays t (refusedWith t number)
+stays-refused : (t : State) (number byte : ℕ) → Stays t (refusedWith t number byte)
 unfolding refusedWith
-stays-refused t number = record { line = refl; at = refl; lengths = refl; holds = refl }
+stays-refused t number byte = record { line = refl; at = refl; lengths = refl; holds = refl }
 
 stays-further : (t : State) (n : ℕ) → Stays t (furtherInto t n)
 unfolding furtherInto
@@ -177,11 +177,11 @@ module _ (s : List ℕ) (lengths : Lengths) (h : Header) where
         ongoing (halted e) = absurd (in-run-some e z)
 
     running-halted : (q : Config) (number : ℕ) → InRun number → Fits s (termsOf lengths h) q → SameLengths (p .areas) (q .areas) →
-        q .state ≡ refusedWith (p .state) number → Running s lengths h q
+        q .state ≡ refusedWith (p .state) number 0 → Running s lengths h q
     unfolding refusedWith
     running-halted q number n f a e =
         running-stays p q v f a
-        (subst (Stays (p .state)) (sym e) (stays-refused (p .state) number))
+        (subst (Stays (p .state)) (sym e) (stays-refused (p .state) number 0))
         (subst (Into s (termsOf lengths h)) (sym e) (v .into))
         (halted (subst InRun (sym (ap (λ (t : State). t .refusal .number) e)) n))
 
@@ -205,7 +205,7 @@ module _ (s : List ℕ) (lengths : Lengths) (h : Header) where
 
     stop-state : {number : ℕ} → InRun number →
         stateAfter (currentLine s p) (commandOf (currentLine s p) .hash) (currentCommand s p) (p .state) number
-        ≡ refusedWith (p .state) number
+        ≡ refusedWith (p .state) number 0
     unfolding stateAfter
     stop-state {number} n = rw (ne-eqb number none (in-run-some n))
 

@@ -5,7 +5,7 @@ use mathlib.Core.List.{List, [], _∷_, _++_, append-assoc, append-nil}
 use Prim.Native.Nat.{ℕ}
 use native.Mathlib.Omega.{arith}
 use lib.ListN.{length, drop, take, length-drop, length-take, take-append-drop}
-use Rattle.text.specs.Number.{digits, numberFrom, numberAt}
+use Rattle.text.specs.Number.{meets, reaches, canMeet, endOf as endOfNumber, digits, numberFrom, numberFor}
 use Rattle.text.specs.Expected.{expectedAt}
 use Rattle.text.specs.Word.{isFirstWord}
 use Rattle.ranges.specs.Ranges.{itemAt, pairAt, pairsAt, setAt, sizeOf, endOf, summary, rangesAt, span, blocksOf}
@@ -89,7 +89,7 @@ module _ (A B C D E F G H T1 T2 T3 W1 W2 W3 : Block) where
       (parted (A .bytes) (B .bytes) (P .bytes) (D .bytes) (E .bytes) (F .bytes) (drop blockBytes new) (drop 904 (G .bytes)) (H .bytes)))
 
   table : Table A B C D E F G H T1 T2 T3 W1 W2 W3
-  unfolding digits numberFrom numberAt expectedAt isFirstWord itemAt pairAt pairsAt setAt sizeOf endOf summary rangesAt span blocksOf pairsOf
+  unfolding meets reaches canMeet endOfNumber digits numberFrom numberFor expectedAt isFirstWord itemAt pairAt pairsAt setAt sizeOf endOf summary rangesAt span blocksOf pairsOf
       rangesOf blocksAt AllBelow hexOf wordIn numberField hashField setField lastSet rangeLine withPlaces afterBlocks sourceFrom sourceField
       lengthFrom targetFrom freeFrom hashedLine commandOf partEnd placesFrom partAt partsIn partsAt partsField usesIn usesAt findIn isHeld sizeAt blocksHeld without sourcePast sourceOver usesBy someMissing stashBlocks
       someDiffer placesNamed sourceDiffers placesOf placesBy isIn someMisplaced sourcedRefusal moveRefusal freeRefusal refusalFor refusalOf stashBytes
@@ -99,13 +99,7 @@ module _ (A B C D E F G H T1 T2 T3 W1 W2 W3 : Block) where
         case-1 = record { sized = record { end = 5; read = refl }; order = refl };
         case-2 = record { sized = record { end = 7; read = refl }; order = refl };
         case-3 = record { end = 247156; read = refl };
-        case-4 = (
-          record { fault = 3; read = refl },
-          record { fault = 0; read = refl },
-          record { fault = 0; read = refl },
-          record { fault = 5; read = refl },
-          record { fault = 3; read = refl },
-        );
+        case-4 = (refl, refl, refl, refl, refl);
         case-5 = (refl, refl);
         case-6 = (refl, refl, refl);
         case-7 = λ h s.

@@ -59,7 +59,7 @@ commandAt s at = commandOf (lineAt s at) .command
 -- line 4
 unfoldable pub mostBlocks : HeaderRead → ℕ
 mostBlocks (Good h) = h .blocks
-mostBlocks (Bad line) = 0
+mostBlocks (Bad line byte) = 0
 
 -- a command line starts at a position of the text, and it is the one at `last` or an earlier one
 pub record UpTo (s : List ℕ) (last at : ℕ) : Type 0 where

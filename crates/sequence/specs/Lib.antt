@@ -4,3 +4,4 @@ pub mod Footprint
 pub mod Claim
 pub mod Cuts
 pub mod Samples
+pub mod Faults

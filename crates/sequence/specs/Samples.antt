@@ -65,10 +65,9 @@ pub record Names (t blocks : List ℕ) : Type 0 where
   pub sized : Sized t (length blocks)
   pub order : blocksAt t 0 ≡ blocks
 
--- no range set stands at the text's start
-pub record IllFormed (t : List ℕ) : Type 0 where
-  pub fault : ℕ
-  pub read : rangesAt t 0 ≡ ranges.Bad fault
+-- no range set stands at the text's start, and its fault is at that position (document 02, R-6)
+abbrev pub IllFormed : List ℕ → ℕ → Type 0
+IllFormed t fault = rangesAt t 0 ≡ ranges.Bad fault
 
 -- what lines are checked against: an image of 8 blocks, a stash area and a work area of 3, no result area and no patch data
 abbrev pub terms : Terms
@@ -111,7 +110,11 @@ module _ (A B C D E F G H T1 T2 T3 W1 W2 W3 : Block) where
     pub case-3 : Sized (text "6,247114,247116,247150,247155,247156,247156") 7
     -- 4. `2,5,3`, `3,1,2,3`, `0`, `4,1,2`, `2,01,2`: ill formed.
     pub case-4 :
-        IllFormed (text "2,5,3") × IllFormed (text "3,1,2,3") × IllFormed (text "0") × IllFormed (text "4,1,2") × IllFormed (text "2,01,2")
+        IllFormed (text "2,5,3") 5
+        × IllFormed (text "3,1,2,3") 1
+        × IllFormed (text "0") 0
+        × IllFormed (text "4,1,2") 5
+        × IllFormed (text "2,01,2") 3
     -- 5. `zero 2,7,8` good; `2,7,9` gives 8.
     pub case-5 : (refusalOf (text "zero 2,7,8\n") terms [] ≡ none) × (refusalOf (text "zero 2,7,9\n") terms [] ≡ 8)
     -- 6. `zero 2,8,8` good, changes nothing; `2,9,9` gives 8.

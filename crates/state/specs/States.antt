@@ -9,9 +9,13 @@ use Rattle.state.specs.declared.Progress.{Progress}
 use Rattle.state.specs.declared.Refusal.{Refusal}
 use Rattle.state.specs.declared.State.{State}
 
--- a number and the line that is refused
+-- a number, the line that is refused and the byte of the text at which it is wrong (document 02, R-6)
+abbrev pub refusingAt : ℕ → ℕ → ℕ → Refusal
+refusingAt number line byte = record { number = number; line = line; byte = byte }
+
+-- refusals other than 3 and 6 report no byte: they have 0 there
 abbrev pub refusing : ℕ → ℕ → Refusal
-refusing number line = record { number = number; line = line }
+refusing number line = refusingAt number line 0
 
 abbrev pub noRefusal : Refusal
 noRefusal = refusing none 0

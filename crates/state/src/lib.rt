@@ -7,11 +7,12 @@ pub mod refusals;
 pub mod stashes;
 pub mod sums;
 
-// A refusal's number and line; number 0 is none.
+// A refusal's number, line, and the byte of the text at which the line is wrong, 0 where none is reported; number 0 is no refusal.
 #[repr(C)]
 pub struct Refusal {
     pub number: usize,
     pub line: usize,
+    pub byte: usize,
 }
 
 // The lengths in bytes of the list, the image, the three areas and the patch data.

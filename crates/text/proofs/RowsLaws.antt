@@ -1,4 +1,5 @@
--- Laws of `specs/Rows.antt`: where a table of refusals gives none, no row of it applies; and a proof along a table, row by row.
+-- Laws of `specs/Rows.antt`: where a table of refusals gives none, no row of it applies; what no row gives is not given; and a proof along a
+-- table, row by row.
 -- Assumes nothing.
 use mathlib.Core.Path.{_≡_, refl, _∙_}
 use mathlib.Core.Bool.{Bool, true, false}
@@ -7,9 +8,9 @@ use Prim.Native.Nat.{ℕ, zero, suc, _<_}
 use native.Mathlib.Omega.{arith}
 use borrow.Author.Tests.{ltb-true}
 use lib.Dec.{ltb}
-use Rattle.text.specs.Choice.{pick, both}
+use Rattle.text.specs.Choice.{pick, both, no}
 use Rattle.text.specs.Rows.{Row, firstOf}
-use Rattle.text.proofs.ChoiceLaws.{both-true}
+use Rattle.text.proofs.ChoiceLaws.{picks, both-true, no-true}
 
 -- what is given past some rows is what the whole table gives: that part first, then what is given there
 pub via : {A : Type 0} {a b c : A} → b ≡ c → a ≡ b → a ≡ c
@@ -39,3 +40,17 @@ module _ {A : Type 0} (number : A → ℕ) where
       go true q l k e i = absurd (omega arith)
       go false q l k e zero = q
       go false q l k e (suc i) = k e i
+
+module _ {A : Type 0} (test : A → Bool) where
+  -- no row gives what passes the test
+  abbrev pub noneGives : List (Row A) → Bool
+  noneGives [] = true
+  noneGives (r ∷ rows) = both (no (test (r .gives))) (noneGives rows)
+
+  pub not-given : (rows : List (Row A)) (other : A) → noneGives rows ≡ true → test other ≡ false → test (firstOf rows other) ≡ false
+  not-given [] other p e = e
+  not-given (r ∷ rows) other p e =
+      let b = both-true (no (test (r .gives))) (noneGives rows) p in
+      picks (λ (x : A). test x ≡ false) (r .when) (r .gives) (firstOf rows other)
+      (λ t. no-true (test (r .gives)) (b .0))
+      (λ t. not-given rows other (b .1) e)

@@ -12,14 +12,14 @@ use lib.ListN.{length}
 use Rattle.text.specs.Line.{lineAt}
 use Rattle.text.proofs.ChoiceLaws.{bool}
 use Rattle.state.specs.Refusals.{none}
-use Rattle.state.specs.States.{refusing, noRefusal}
+use Rattle.state.specs.States.{noRefusal}
 use Rattle.state.specs.Stashes.{Stash}
 use Rattle.state.specs.declared.Refusal.{Refusal}
 use Rattle.command.specs.Commands.{commandOf}
 use Rattle.rules.specs.Held.{heldAfter}
 use Rattle.rules.specs.Rules.{refusalOf}
 use Rattle.rules.specs.declared.Terms.{Terms}
-use Rattle.transfer_list.specs.Opening.{countedBlocks, totalRefusal, linesRefusal}
+use Rattle.transfer_list.specs.Opening.{countedBlocks, totalRefusal, lineRefusal, linesRefusal}
 use Rattle.transfer_list.specs.declared.header.Header.{Header}
 
 -- the walk goes on after the line that starts at a position
@@ -45,11 +45,11 @@ module _ (n : ℕ) (s : List ℕ) (terms : Terms) (h : Header) (line at : ℕ) (
 
   module _ (w : 0 < n) (l : at < length s) where
     pub lines-refused : (refusalOf (lineAt s at) terms stashes ≡ none → ⊥) →
-        linesRefusal n s terms h line at stashes counted ≡ refusing (refusalOf (lineAt s at) terms stashes) line
+        linesRefusal n s terms h line at stashes counted ≡ lineRefusal s terms line at stashes
     unfolding linesRefusal
     lines-refused e = go n w
       where
-        go : (n : ℕ) → 0 < n → linesRefusal n s terms h line at stashes counted ≡ refusing (refusalOf (lineAt s at) terms stashes) line
+        go : (n : ℕ) → 0 < n → linesRefusal n s terms h line at stashes counted ≡ lineRefusal s terms line at stashes
         go zero w = absurd (omega arith)
         go (suc m) w = rw (lt-leb (length s) at l, ne-eqb (refusalOf (lineAt s at) terms stashes) none e)
 

@@ -1,5 +1,5 @@
--- Document 01, "Refusal numbers", and document 02, R-1 and R-4: an opening checks the whole text, changes nothing, and gives number and
--- line. An opening is accepted when none of 1 to 15 and 18 applies.
+-- Document 01, "Refusal numbers", and document 02, R-1, R-4 and R-6: an opening checks the whole text, changes nothing, and gives number and
+-- line, 3 and 6 with the byte. An opening is accepted when none of 1 to 15 and 18 applies.
 -- Assumes nothing: these are definitions.
 use Prim.Native.Nat.{ℕ, zero, suc, _+_, _/_}
 use mathlib.Core.List.{List, [], _∷_}
@@ -11,11 +11,12 @@ use Rattle.text.specs.Line.{lineAt}
 use Rattle.state.specs.Limits.{blockBytes}
 use Rattle.state.specs.Refusals.{none, totalDiffers}
 use Rattle.state.specs.Stashes.{Stash}
-use Rattle.state.specs.States.{refusing, noRefusal, stateAt}
+use Rattle.state.specs.States.{refusing, refusingAt, noRefusal, stateAt}
 use Rattle.state.specs.declared.Lengths.{Lengths}
 use Rattle.state.specs.declared.Refusal.{Refusal}
 use Rattle.state.specs.declared.State.{State}
 use Rattle.command.specs.Commands.{commandOf}
+use Rattle.command.specs.Faults.{faultByte}
 use Rattle.command.specs.declared.Command.{Command}
 use Rattle.command.specs.declared.Command.the-variants as command
 use Rattle.rules.specs.Rules.{refusalOf}
@@ -56,6 +57,11 @@ countedBlocks (command.Bad p) = 0
 unfoldable pub totalRefusal : Header → ℕ → Refusal
 totalRefusal h counted = firstOf (no (eqb counted (h .total)) ⇒ refusing totalDiffers 2 ∷ []) noRefusal
 
+-- a line that is refused, which starts at `at`: its number, and where it is ill formed the byte of its fault (R-6)
+abbrev pub lineRefusal : List ℕ → Terms → ℕ → ℕ → List Stash → Refusal
+lineRefusal s terms line at held =
+    refusingAt (refusalOf (lineAt s at) terms held) line (faultByte at (commandOf (lineAt s at) .command))
+
 -- lines go top to bottom, n of them at most: from the line that starts at `at`, with what is held there and what line 2 counts so far
 unfoldable pub linesRefusal : ℕ → List ℕ → Terms → Header → ℕ → ℕ → List Stash → ℕ → Refusal
 linesRefusal zero s terms h line at held counted = totalRefusal h counted
@@ -65,12 +71,12 @@ linesRefusal (suc n) s terms h line at held counted =
     (linesRefusal n s terms h (line + 1) (at + length (lineAt s at))
     (heldAfter held (commandOf (lineAt s at) .hash) (commandOf (lineAt s at) .command))
     (counted + countedBlocks (commandOf (lineAt s at) .command)))
-    (refusing (refusalOf (lineAt s at) terms held) line))
+    (lineRefusal s terms line at held))
 
 -- the command lines; a text has fewer of them than characters
 unfoldable pub commandsRefusal : List ℕ → Lengths → HeaderRead → Refusal
 commandsRefusal s lengths (Good h) = linesRefusal (suc (length s)) s (termsOf lengths h) h firstLine (h .first) [] 0
-commandsRefusal s lengths (Bad line) = noRefusal
+commandsRefusal s lengths (Bad line byte) = noRefusal
 
 -- 1 to 5, then the command lines
 unfoldable pub openRefusal : List ℕ → Lengths → Refusal
@@ -80,7 +86,7 @@ openRefusal s lengths =
 -- where the command lines start
 unfoldable pub firstAt : HeaderRead → ℕ
 firstAt (Good h) = h .first
-firstAt (Bad line) = 0
+firstAt (Bad line byte) = 0
 
 -- an accepted opening's state: at the first command line, no stash, no refusal
 unfoldable pub acceptedState : List ℕ → Lengths → State

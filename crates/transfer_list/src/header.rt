@@ -34,10 +34,10 @@ pub struct Header {
     pub first: usize,
 }
 
-// A header, or the line that is at fault.
+// A header, or the line that is at fault and the byte of its fault.
 pub enum HeaderRead {
     Good(Header),
-    Bad(usize),
+    Bad { line: usize, byte: usize },
 }
 
 // A number and an LF.
@@ -56,25 +56,25 @@ fn read_header_line(s: &[u8], at: usize) -> Number
 pub fn read_header(s: &[u8]) -> HeaderRead
     ensures { λ r. ⌜ r ≡ headerOf (now (s .entry)) ⌝ }
 {
-    let Number::Good(version, i) = read_header_line(s, 0) else {
-        return HeaderRead::Bad(1);
-    };
-    let Number::Good(total, j) = read_header_line(s, i) else {
-        return HeaderRead::Bad(2);
-    };
-    let Number::Good(stashes, k) = read_header_line(s, j) else {
-        return HeaderRead::Bad(3);
-    };
-    let Number::Good(blocks, first) = read_header_line(s, k) else {
-        return HeaderRead::Bad(4);
-    };
-    HeaderRead::Good(Header {
-        version,
-        total,
-        stashes,
-        blocks,
-        first,
-    })
+    match read_header_line(s, 0) {
+        Number::Bad(byte) => HeaderRead::Bad { line: 1, byte },
+        Number::Good(version, i) => match read_header_line(s, i) {
+            Number::Bad(byte) => HeaderRead::Bad { line: 2, byte },
+            Number::Good(total, j) => match read_header_line(s, j) {
+                Number::Bad(byte) => HeaderRead::Bad { line: 3, byte },
+                Number::Good(stashes, k) => match read_header_line(s, k) {
+                    Number::Bad(byte) => HeaderRead::Bad { line: 4, byte },
+                    Number::Good(blocks, first) => HeaderRead::Good(Header {
+                        version,
+                        total,
+                        stashes,
+                        blocks,
+                        first,
+                    }),
+                },
+            },
+        },
+    }
 }
 
 // Whole blocks, and not over the most.
@@ -106,30 +106,38 @@ fn check_header(lengths: Lengths, read: HeaderRead) -> Refusal
     ensures { λ r. ⌜ r ≡ headerRefusal lengths read ⌝ }
 {
     match read {
-        HeaderRead::Bad(line) => Refusal {
+        HeaderRead::Bad { line, byte } => Refusal {
             number: HEADER_FORM,
             line,
+            byte,
         },
         HeaderRead::Good(h) => {
             if h.version != VERSION_3 {
                 return Refusal {
                     number: OTHER_VERSION,
                     line: 1,
+                    byte: 0,
                 };
             }
             if MOST_STASHES < h.stashes as usize {
                 return Refusal {
                     number: HEADER_LIMIT,
                     line: 3,
+                    byte: 0,
                 };
             }
             if lengths.stash / BLOCK_BYTES < h.blocks as usize {
                 return Refusal {
                     number: HEADER_LIMIT,
                     line: 4,
+                    byte: 0,
                 };
             }
-            Refusal { number: 0, line: 0 }
+            Refusal {
+                number: 0,
+                line: 0,
+                byte: 0,
+            }
         }
     }
 }
@@ -142,12 +150,14 @@ pub fn check_start(s: &[u8], lengths: Lengths) -> Refusal
         return Refusal {
             number: AREA_SIZE,
             line: 0,
+            byte: 0,
         };
     }
     if MOST_LIST_BYTES < s.len() {
         return Refusal {
             number: LIST_LENGTH,
             line: 0,
+            byte: 0,
         };
     }
     check_header(lengths, read_header(s))

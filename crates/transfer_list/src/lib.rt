@@ -13,6 +13,8 @@ use crate::header::HeaderRead;
 use crate::header::check_start;
 use crate::header::read_header;
 use command::Command;
+use command::faults::Fault;
+use command::faults::fault_of;
 use marks::MARK_BYTES;
 use rules::Terms;
 use rules::check_line;
@@ -99,14 +101,19 @@ fn check_lines(list: &[u8], terms: Terms, h: Header) -> Refusal
     while at < list.len() {
         let l = line_at(list, at);
         let checked = check_line(l, terms, &hashes, &sizes, count, &mut marks);
+        let read = checked.line;
+        let command = read.command;
         if checked.refusal != 0 {
+            let byte = match fault_of(command) {
+                Fault::At(p) => at + p,
+                Fault::None => 0,
+            };
             return Refusal {
                 number: checked.refusal,
                 line,
+                byte,
             };
         }
-        let read = checked.line;
-        let command = read.command;
         count = hold_after(&mut hashes, &mut sizes, count, read);
         counted = bounded_sum(counted, counted_blocks(command));
         at = at + l.len();
@@ -116,9 +123,14 @@ fn check_lines(list: &[u8], terms: Terms, h: Header) -> Refusal
         return Refusal {
             number: TOTAL_DIFFERS,
             line: 2,
+            byte: 0,
         };
     }
-    Refusal { number: 0, line: 0 }
+    Refusal {
+        number: 0,
+        line: 0,
+        byte: 0,
+    }
 }
 
 // The refusal of an opening; number 0 for an accepted one.
@@ -130,7 +142,11 @@ fn check_list(list: &[u8], lengths: Lengths) -> Refusal
         return start;
     }
     match read_header(list) {
-        HeaderRead::Bad(_) => Refusal { number: 0, line: 0 },
+        HeaderRead::Bad { line: _, byte: _ } => Refusal {
+            number: 0,
+            line: 0,
+            byte: 0,
+        },
         HeaderRead::Good(h) => check_lines(list, terms_of(lengths, h), h),
     }
 }
@@ -167,9 +183,13 @@ pub fn open(
         };
         return state_at(0, 0, refusal, none);
     }
-    let nothing = Refusal { number: 0, line: 0 };
+    let nothing = Refusal {
+        number: 0,
+        line: 0,
+        byte: 0,
+    };
     match read_header(list) {
-        HeaderRead::Bad(_) => state_at(FIRST_LINE, 0, nothing, lengths),
+        HeaderRead::Bad { line: _, byte: _ } => state_at(FIRST_LINE, 0, nothing, lengths),
         HeaderRead::Good(h) => state_at(FIRST_LINE, h.first, nothing, lengths),
     }
 }

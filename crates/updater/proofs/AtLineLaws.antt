@@ -15,7 +15,7 @@ use Rattle.machine.proofs.LoopLaws.{puts, Eats}
 use Rattle.updater.specs.Areas.{withImage}
 use Rattle.updater.specs.Bytes.{putBytes}
 use Rattle.updater.specs.Steps.{Config, configOf, furtherInto, after}
-use Rattle.updater.specs.Run.{currentLine, currentCommand, refusalHere, refusedAt, quietStep, newBlocks, newBytes, putByte}
+use Rattle.updater.specs.Run.{currentLine, currentCommand, refusalHere, faultHere, refusedAt, quietStep, newBlocks, newBytes, putByte}
 use Rattle.updater.specs.Run.{isStopped, needsByte, machine}
 use Rattle.updater.proofs.FitLaws.{NotStopped}
 
@@ -34,7 +34,7 @@ module _ (s : List ℕ) (terms : Terms) (p : Config) (g : NotStopped s p) where
     unfolding needsByte
     refused-moves = rw (goes-on, ne-eqb (refusalHere s terms p) none n)
 
-    pub refused-step : quietStep s terms p ≡ refusedAt (refusalHere s terms p) p
+    pub refused-step : quietStep s terms p ≡ refusedAt (refusalHere s terms p) (faultHere s p) p
     unfolding quietStep
     refused-step = rw (ne-eqb (refusalHere s terms p) none n)
 

@@ -27,7 +27,7 @@ use Rattle.updater.specs.Areas.{Areas, SameLengths}
 use Rattle.updater.specs.Bytes.{addressOf}
 use Rattle.updater.specs.Effect.{effect}
 use Rattle.updater.specs.Steps.{Config, configOf, passed, refusedWith, furtherInto, stateAfter, after}
-use Rattle.updater.specs.Run.{currentLine, currentCommand, refusedAt, quietStep, newBlocks, putByte, isStopped, needsByte, machine}
+use Rattle.updater.specs.Run.{currentLine, currentCommand, faultHere, refusedAt, quietStep, newBlocks, putByte, isStopped, needsByte, machine}
 use Rattle.updater.specs.Fits.{Fits}
 use Rattle.updater.proofs.EffectLaws.{lengths-refl, effect-lengths}
 use Rattle.updater.proofs.RunnableLaws.{runnable, keeps}
@@ -85,12 +85,12 @@ module _ (s l : List ℕ) (terms : Terms) (p : Config) (f : Fits s terms p) (som
       }
 
   -- refused at the line
-  step-refused : (a : Areas) (number : ℕ) → SameLengths (p .areas) a → (number ≡ none → ⊥) →
-      StepKeeps s terms p (configOf a (refusedWith (p .state) number))
+  step-refused : (a : Areas) (number byte : ℕ) → SameLengths (p .areas) a → (number ≡ none → ⊥) →
+      StepKeeps s terms p (configOf a (refusedWith (p .state) number byte))
   unfolding refusedWith
-  step-refused a number e n =
+  step-refused a number byte e n =
       record {
-        fits = still-fits s terms p f (configOf a (refusedWith (p .state) number)) e (f .whole) (f .blocks) (f .at) (f .line);
+        fits = still-fits s terms p f (configOf a (refusedWith (p .state) number byte)) e (f .whole) (f .blocks) (f .at) (f .line);
         same = e;
         less = rw (ne-eqb number none n) (omega arith);
       }
@@ -109,7 +109,7 @@ module _ (s l : List ℕ) (terms : Terms) (p : Config) (f : Fits s terms p) (som
       step-past (x .areas) (tableAfter t hash c) n (table-whole l terms t hash (f .whole) (command-hash l) c)
       (rw (held-after l terms t hash (f .whole) (f .most-stashes) (command-hash l) c e)
       (held-blocks l terms (held (p .state)) hash c e (f .blocks))))
-      (λ b. step-refused (x .areas) (x .refusal) n (eqb-false (x .refusal) none b))
+      (λ b. step-refused (x .areas) (x .refusal) 0 n (eqb-false (x .refusal) none b))
 
 -- ---- where the machine has not stopped
 
@@ -134,13 +134,13 @@ module _ (s : List ℕ) (terms : Terms) (p : Config) (f : Fits s terms p) where
       let number = refusalOf l terms (held (p .state)) in
       let some = line-some s (p .state .at) h in
       let within = line-within s (p .state .at) h in
-      picks (StepKeeps s terms p) (eqb number none) (after l (commandOf l .hash) (commandOf l .command) p) (refusedAt number p)
+      picks (StepKeeps s terms p) (eqb number none) (after l (commandOf l .hash) (commandOf l .command) p) (refusedAt number (faultHere s p) p)
       (λ t.
       let e = eqb-true number none t in
       step-after s l terms p f some within e
       (effect-lengths l (held (p .state)) (commandOf l .hash) (p .areas) (commandOf l .command) (keeps s terms p f) (runnable s terms p f e)))
       (λ t.
-      step-refused s l terms p f some within (p .areas) number (lengths-refl (p .areas)) (eqb-false number none t))
+      step-refused s l terms p f some within (p .areas) number (faultHere s p) (lengths-refl (p .areas)) (eqb-false number none t))
 
   pub quiet-lengths : p .state .at < length s → SameLengths (p .areas) (quietStep s terms p .areas)
   quiet-lengths h = step-quiet h .same

@@ -15,8 +15,10 @@ use Rattle.ranges.specs.declared.RangeSet.{RangeSet}
 use Rattle.state.specs.Limits.{blockBytes}
 use Rattle.state.specs.Refusals.{none}
 use Rattle.state.specs.Stashes.{Table, tableOf, held}
-use Rattle.state.specs.States.{refusing, withTable, withCursor, withRefusal}
+use Rattle.state.specs.States.{refusing, refusingAt, withTable, withCursor, withRefusal}
 use Rattle.command.specs.Commands.{commandOf}
+use Rattle.command.specs.Faults.{faultByte}
+use Rattle.faults.proofs.Faults.{fault-within}
 use Rattle.command.specs.Targets.{newTarget}
 use Rattle.command.specs.declared.targets.NewTarget.the-variants as new
 use Rattle.command.specs.declared.Command.{Command}
@@ -112,6 +114,11 @@ module _ {s : List ℕ} {terms : Terms} {p : Config} {l : List ℕ} {checked : C
   pub checked-at : p .state .at + length l < 2 ^ 64
   checked-at = rw (c .line) (next-at s terms p f (c .going .within))
 
+  -- a fault lies within its line
+  pub checked-fault : (q : ℕ) → checked .line .command ≡ command.Bad q → p .state .at + q < 2 ^ 64
+  checked-fault q e =
+      omega (arith, fault-within (currentLine s p) (checked-command c ∙ e), next-at s terms p f (c .going .within))
+
   module _ (e : checked .refusal ≡ none) where
     unrefused : refusalHere s terms p ≡ none
     unrefused = sym (checked-refusal c) ∙ e
@@ -135,13 +142,13 @@ module _ {s : List ℕ} {terms : Terms} {p : Config} {l : List ℕ} {checked : C
 module _ {s piece l : List ℕ} {terms : Terms} {p₀ p : Config} {i : ℕ} {checked : Checked}
     (a : Same (machine s terms) (Fits s terms) piece p₀ 0 p i) (c : Checks s terms p l checked) where
   -- the line is refused
-  pub refuses : (checked .refusal ≡ none → ⊥) →
-      Ends (machine s terms) piece p₀ (configOf (p .areas) (withRefusal (p .state) (refusing (checked .refusal) (p .state .line)))) i
+  pub refuses : {byte : ℕ} → (checked .refusal ≡ none → ⊥) → byte ≡ faultByte (p .state .at) (checked .line .command) →
+      Ends (machine s terms) piece p₀ (configOf (p .areas) (withRefusal (p .state) (refusingAt (checked .refusal) (p .state .line) byte))) i
   unfolding refusedAt refusedWith
-  refuses n =
+  refuses n b =
       let m : refusalHere s terms p ≡ none → ⊥ = λ z. n (checked-refusal c ∙ z) in
       let q = turned a (refused-moves s terms p (c .going) m) (sym (refused-step s terms p (c .going) m)) in
-      rw (checked-refusal c) (stops (q .same) (refused-stops s _ m))
+      rw (b, checked-refusal c, sym (checked-command c)) (stops (q .same) (refused-stops s _ m))
 
   module _ (e : checked .refusal ≡ none) where
     -- a command that needs no byte, with what it leaves of the areas and the number it stops with

@@ -22,7 +22,7 @@ use Rattle.updater.specs.declared.Outcome.the-variants as outcome
 use Rattle.updater.specs.declared.Advanced.{Advanced}
 use Rattle.updater.specs.declared.Called.{Called}
 
--- done, more, or refused with number and line
+-- done, more, or refused with number, line and byte
 unfoldable pub outcomeAt : ℕ → ℕ → Refusal → Outcome
 outcomeAt list at refused =
     pick (eqb (refused .number) none) (pick (leb list at) outcome.Done outcome.More) (outcome.Refused refused)

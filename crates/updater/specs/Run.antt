@@ -12,6 +12,7 @@ use Rattle.state.specs.Limits.{blockBytes}
 use Rattle.state.specs.Refusals.{none}
 use Rattle.state.specs.Stashes.{held}
 use Rattle.command.specs.Commands.{commandOf}
+use Rattle.command.specs.Faults.{faultByte}
 use Rattle.command.specs.Targets.{newTarget, onNewTarget}
 use Rattle.command.specs.declared.Command.{Command}
 use Rattle.rules.specs.Rules.{refusalOf}
@@ -31,16 +32,20 @@ currentCommand s p = commandOf (currentLine s p) .command
 abbrev pub refusalHere : List ℕ → Terms → Config → ℕ
 refusalHere s terms p = refusalOf (currentLine s p) terms (held (p .state))
 
+-- the byte that is reported of it (document 02, R-6)
+abbrev pub faultHere : List ℕ → Config → ℕ
+faultHere s p = faultByte (p .state .at) (currentCommand s p)
+
 -- a line refused in a run changes nothing itself
-unfoldable pub refusedAt : ℕ → Config → Config
-refusedAt number p = configOf (p .areas) (refusedWith (p .state) number)
+unfoldable pub refusedAt : ℕ → ℕ → Config → Config
+refusedAt number byte p = configOf (p .areas) (refusedWith (p .state) number byte)
 
 -- each line is decoded and checked again before it runs
 unfoldable pub quietStep : List ℕ → Terms → Config → Config
 quietStep s terms p =
     pick (eqb (refusalHere s terms p) none)
     (after (currentLine s p) (commandOf (currentLine s p) .hash) (currentCommand s p) p)
-    (refusedAt (refusalHere s terms p) p)
+    (refusedAt (refusalHere s terms p) (faultHere s p) p)
 
 -- the blocks that new data goes to: those of a `new`'s target
 unfoldable pub newBlocks : List ℕ → Command → List ℕ

@@ -96,6 +96,7 @@ pub fn call_in_place(
             outcome: Outcome::Refused(Refusal {
                 number: STATE_IMPOSSIBLE,
                 line: 0,
+                byte: 0,
             }),
             taken: 0,
         };

@@ -1,5 +1,8 @@
 // The lines of a list, run until the next byte of new data is needed, the list is finished, or something is refused.
 ghost use mathlib.Core.Path.{_≡_};
+ghost use Prim.Native.Nat.{ℕ, _+_, _<_, _^_};
+ghost use Rattle.command.specs.Faults.{faultByte};
+ghost use Rattle.command.specs.declared.Command.the-variants.{Bad};
 ghost use Rattle.state.specs.States.{stateWith};
 ghost use Rattle.updater.specs.Areas.{areasOf};
 ghost use Rattle.updater.specs.Steps.{configOf};
@@ -7,6 +10,9 @@ ghost use Rattle.updater.specs.Run.{reached, runOf};
 ghost use Rattle.updater.specs.Fits.{Fits};
 use crate::commands::run_command;
 use crate::new_data::take_new;
+use command::Command;
+use command::faults::Fault;
+use command::faults::fault_of;
 use command::targets::NewTarget;
 use command::targets::new_target;
 use marks::MARK_BYTES;
@@ -24,6 +30,17 @@ use text::line::line_at;
 pub(crate) struct Ran {
     pub progress: Progress,
     pub taken: usize,
+}
+
+// The byte of the text at which a line that starts at `at` is ill formed, 0 for none.
+fn fault_byte(at: usize, command: Command) -> usize
+    requires { ⌜ ((p : ℕ) → command ≡ Bad p → at + p < 2 ^ 64) ⌝ }
+    ensures { λ r. ⌜ r ≡ faultByte at command ⌝ }
+{
+    match fault_of(command) {
+        Fault::At(p) => at + p,
+        Fault::None => 0,
+    }
 }
 
 // The stashes' tables are read and written where they lie.
@@ -55,15 +72,16 @@ pub(crate) fn run_lines(
     'lines: while at < list.len() {
         let l = line_at(list, at);
         let checked = check_line(l, terms, &*hashes, &*sizes, count, &mut marks);
+        let read = checked.line;
+        let command = read.command;
         if checked.refusal != 0 {
             refusal = Refusal {
                 number: checked.refusal,
                 line,
+                byte: fault_byte(at, command),
             };
             break 'lines;
         }
-        let read = checked.line;
-        let command = read.command;
         match new_target(command) {
             NewTarget::Set(set) => {
                 let left = take_new(image, l, set.at, piece, i, into);
@@ -93,6 +111,7 @@ pub(crate) fn run_lines(
                     refusal = Refusal {
                         number: stopped,
                         line,
+                        byte: 0,
                     };
                     break 'lines;
                 }

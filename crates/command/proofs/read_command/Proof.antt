@@ -4,15 +4,21 @@ use mathlib.Core.Path.{_≡_, sym, _∙_}
 use Prim.Native.Nat.{ℕ}
 use mathlib.Core.List.{List}
 use Rattle.command.specs.declared.word.Word.{Word}
+use Rattle.command.specs.declared.word.Word.the-variants as word
+use Rattle.command.specs.declared.Command.the-variants.{Bad}
 use Rattle.command.specs.declared.Line.{Line}
-use Rattle.command.specs.Words.{wordOf}
-use Rattle.command.specs.Commands.{lineBy, commandOf}
+use Rattle.command.specs.Words.{wordOf, wordFault}
+use Rattle.command.specs.Commands.{plain, lineBy, commandOf}
 use Rattle.command.proofs.read_command.Statement.{statement}
 use Rattle.command.proofs.read_command.Tie as tie
 
 by-word : (l : List ℕ) {m w : Word} {a : Line} → m ≡ wordOf l → m ≡ w → a ≡ lineBy l w → a ≡ commandOf l
 unfolding commandOf
 by-word l e f h = rw (sym e ∙ f) h
+
+-- a line that starts with none of the words, whose fault was found
+no-word : (l : List ℕ) {p : ℕ} {a : Line} → p ≡ wordFault l → a ≡ plain (Bad p) → a ≡ lineBy l word.Unknown
+no-word l e h = rw (← e) h
 
 pub read-command-spec : {M : Type 1} → statement M
 read-command-spec =
@@ -29,8 +35,9 @@ read-command-spec =
     (λ c κs. search needs)
     (λ c. search needs)
     (λ c κs. search needs)
+    (λ c κs. search needs)
     (λ c. search by-word)
     (λ c. search by-word)
     (λ c. search by-word)
     (λ c. search by-word)
-    (λ c. search by-word))
+    (λ c. search (by-word, no-word)))

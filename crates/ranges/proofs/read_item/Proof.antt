@@ -17,15 +17,15 @@ returns-2 : tie.Need-returns-2
 unfolding itemAt
 returns-2 c = rw (lt-ltb _ _ (c .before .before .if1 .left), ne-eqb _ _ (c .if2 .taken))
 
-add-read-number : tie.Need-add-read-number
-add-read-number c = search needs
+add-read-number-for : tie.Need-add-read-number-for
+add-read-number-for c = search needs
 
-read-number-requires : tie.Need-read-number-requires
-read-number-requires c κs = search needs
+read-number-for-requires : tie.Need-read-number-for-requires
+read-number-for-requires c κs = search needs
 
 returns-3 : tie.Need-returns-3
 unfolding itemAt
-returns-3 c = rw (lt-ltb _ _ (c .before .before .before .if1 .left), eq-eqb _ _ (c .before .if2 .left)) (c .read-number .ensures)
+returns-3 c = rw (lt-ltb _ _ (c .before .before .before .if1 .left), eq-eqb _ _ (c .before .if2 .left)) (c .read-number-for .ensures)
 
 pub read-item-spec : {M : Type 1} → statement M
 read-item-spec =
@@ -34,6 +34,6 @@ read-item-spec =
     returns
     shared-slice-read-if2
     returns-2
-    add-read-number
-    read-number-requires
+    add-read-number-for
+    read-number-for-requires
     returns-3)

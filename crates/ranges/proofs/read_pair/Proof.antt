@@ -1,6 +1,5 @@
--- `ranges::read_pair` meets its contract: what was read, and the test, pick the case of `pairAt`. Assumes nothing.
+-- `ranges::read_pair` meets its contract: what was read picks the case of `pairAt`. Assumes nothing.
 use borrow.Author.Needs.{needs}
-use Rattle.text.proofs.ChoiceLaws.{pick-le, pick-above}
 use Rattle.text.proofs.NumberLaws.{number-read, number-fault}
 use Rattle.ranges.specs.Ranges.{pairAt}
 use Rattle.ranges.proofs.read_pair.Statement.{statement}
@@ -19,5 +18,4 @@ read-pair-spec =
     (λ c. search needs)
     (λ c. search number-fault)
     (λ c. search (number-read, number-fault))
-    (λ c. search (number-read, pick-le))
-    (λ c. search (number-read, pick-above)))
+    (λ c. search number-read))

@@ -4,12 +4,13 @@
 use mathlib.Core.Path.{_≡_, refl, sym, _∙_}
 use mathlib.Core.Logic.{⊎-elim}
 use mathlib.Core.List.{List}
-use Prim.Native.Nat.{ℕ, zero, suc, _+_, _-_, _*_, _/_, _%_, _≤_, _<_, max}
+use Prim.Native.Nat.{ℕ, zero, suc, _+_, _-_, _*_, _/_, _≤_, _<_, max}
 use native.Mathlib.Numerals.{sub-one}
 use native.Mathlib.Omega.{arith}
 use borrow.Author.Needs.{needs}
-use borrow.Author.Tests.{eq-eqb, ne-eqb, le-leb, lt-leb}
-use Rattle.text.specs.Number.{largest, numberAt}
+use Rattle.text.specs.Number.{largest, numberFor}
+use Rattle.text.specs.declared.number.Need.the-variants as need
+use Rattle.text.specs.declared.number.Number.{Number}
 use Rattle.text.specs.declared.number.Number.the-variants as number
 use Rattle.ranges.specs.declared.Pair.the-variants as pair
 use Rattle.ranges.specs.declared.Ranges.{Ranges}
@@ -39,24 +40,16 @@ unfolding summaryFrom sizeOf endOf
 from-follow at blocks last r (ok rs next) = good at next (omega arith) (omega arith)
 from-follow at blocks last r (fault p) = refl
 
--- a fault before the loop
+-- before the loop
 module _ (s : List ℕ) (at : ℕ) where
-  number-bad : {p : ℕ} → numberAt s at ≡ number.Bad p → rangesAt s at ≡ ranges.Bad p
+  count-bad : {m : Number} {p : ℕ} {a : Ranges} → m ≡ numberFor need.Count s at → m ≡ number.Bad p → a ≡ ranges.Bad p → a ≡ rangesAt s at
   unfolding rangesAt setAt summary
-  number-bad e = rw e
+  count-bad e f h = rw (sym e ∙ f) h
 
-  module _ {count from : ℕ} (e : numberAt s at ≡ number.Good count from) where
-    count-odd : (count % 2 ≡ 0 → ⊥) → rangesAt s at ≡ ranges.Bad at
-    unfolding rangesAt setAt summary
-    count-odd o = rw (e, ne-eqb (count % 2) 0 o)
-
-    count-small : count % 2 ≡ 0 → count < 2 → rangesAt s at ≡ ranges.Bad at
-    unfolding rangesAt setAt summary
-    count-small o l = rw (e, eq-eqb (count % 2) 0 o, lt-leb 2 count l)
-
-    turn-start : count % 2 ≡ 0 → 2 ≤ count → summaryFrom at 0 0 (pairsAt (count / 2) s from) ≡ rangesAt s at
-    unfolding rangesAt setAt
-    turn-start o l = rw (e, eq-eqb (count % 2) 0 o, le-leb 2 count l) (from-start at (pairsAt (count / 2) s from))
+  turn-start : {count from : ℕ} → numberFor need.Count s at ≡ number.Good count from →
+      summaryFrom at 0 0 (pairsAt (count / 2) s from) ≡ rangesAt s at
+  unfolding rangesAt setAt
+  turn-start {count} {from} e = rw e (from-start at (pairsAt (count / 2) s from))
 
 -- one turn of the loop
 module _ (s : List ℕ) (i n at blocks last : ℕ) where
@@ -91,35 +84,11 @@ Inv-loop s at count from left₀ blocks₀ last₀ i₀ left blocks last i =
 abbrev μ-loop : tie.MeasureT-loop
 μ-loop s at count from left₀ blocks₀ last₀ i₀ left blocks last i = left
 
-read-number-requires : tie.Need-read-number-requires Inv-loop μ-loop
-read-number-requires c κs = tt
-
-enum-known-p : tie.Need-enum-known-p Inv-loop μ-loop
-enum-known-p c = search needs
-
-enum-known-count : tie.Need-enum-known-count Inv-loop μ-loop
-enum-known-count c = search needs
+loop-holds : tie.Need-loop-holds Inv-loop μ-loop
+loop-holds c = (omega arith, turn-start _ _ (sym (c .before .before .before .read-number-for .ensures) ∙ c .before .count .given .1))
 
 returns : tie.Need-returns Inv-loop μ-loop
-returns c = sym (count-odd _ _ (sym (c .before .before .before .before .read-number .ensures) ∙ c .before .before .count .given .1) (c .if1 .taken))
-
-returns-2 : tie.Need-returns-2 Inv-loop μ-loop
-returns-2 c = sym (count-small _ _ (sym (c .before .before .before .before .before .read-number .ensures) ∙ c .before .before .before .count .given .1) (omega arith) (c .if2 .taken))
-
-loop-holds : tie.Need-loop-holds Inv-loop μ-loop
-loop-holds c = (omega arith, turn-start _ _ (sym (c .before .before .before .before .before .read-number .ensures) ∙ c .before .before .before .count .given .1) (omega arith) (omega arith))
-
-read-pair-requires : tie.Need-read-pair-requires Inv-loop μ-loop
-read-pair-requires c κs = tt
-
-enum-known-p-2 : tie.Need-enum-known-p-2 Inv-loop μ-loop
-enum-known-p-2 c = search needs
-
-returns-3 : tie.Need-returns-3 Inv-loop μ-loop
-returns-3 c = sym (turn-bad _ _ _ _ _ _ (omega arith) (sym (c .before .before .before .read-pair .ensures) ∙ c .before .p2 .given .1)) ∙ c .before .before .before .before .before .loop .inv .1
-
-enum-known-start : tie.Need-enum-known-start Inv-loop μ-loop
-enum-known-start c = search needs
+returns c = sym (turn-bad _ _ _ _ _ _ (omega arith) (cc)) ∙ c .before .before .before .before .before .loop .inv .1
 
 sub-blocks : tie.Need-sub-blocks Inv-loop μ-loop
 sub-blocks c = pair-order _ _ (sym (c .before .before .before .read-pair .ensures) ∙ c .before .start .given .1)
@@ -140,16 +109,16 @@ loop-again : tie.Need-loop-again Inv-loop μ-loop
 loop-again c =
     let l = c .before .before .before .before .before .before .loop in
     let r = c .before .before in
-    let m : c .if3 .last ≡ max (l .last) (r .start .given .0 .1 .0) = ⊎-elim (λ w. omega arith) (λ w. omega arith) (c .if3 .came) in (
+    let m : c .if1 .last ≡ max (l .last) (r .start .given .0 .1 .0) = ⊎-elim (λ w. omega arith) (λ w. omega arith) (c .if1 .came) in (
       omega arith,
       rw m (sym (turn-more _ _ _ _ _ _ (omega arith) (sym (r .before .before .read-pair .ensures) ∙ r .start .given .1)) ∙ l .inv .1),
     )
 
-returns-4 : tie.Need-returns-4 Inv-loop μ-loop
-returns-4 c = sym (number-bad _ _ (cc))
+returns-2 : tie.Need-returns-2 Inv-loop μ-loop
+returns-2 c = search count-bad
 
-returns-5 : tie.Need-returns-5 Inv-loop μ-loop
-returns-5 c = sym (turn-end _ _ _ _ _ _ (omega arith)) ∙ c .before .loop .inv .1
+returns-3 : tie.Need-returns-3 Inv-loop μ-loop
+returns-3 c = sym (turn-end _ _ _ _ _ _ (omega arith)) ∙ c .before .loop .inv .1
 
 pub read-ranges-spec : {M : Type 1} → statement M
 read-ranges-spec =
@@ -157,21 +126,19 @@ read-ranges-spec =
     (tie.spec
     Inv-loop
     μ-loop
-    read-number-requires
-    enum-known-p
-    enum-known-count
-    returns
-    returns-2
+    (λ c κs. tt)
+    (λ c. search needs)
+    (λ c. search needs)
     loop-holds
-    read-pair-requires
-    enum-known-p-2
-    returns-3
-    enum-known-start
+    (λ c κs. tt)
+    (λ c. search needs)
+    returns
+    (λ c. search needs)
     sub-blocks
     cast-blocks
     add-blocks
     sub-left
     loop-less
     loop-again
-    returns-4
-    returns-5)
+    returns-2
+    returns-3)

@@ -14,12 +14,18 @@ use Rattle.text.proofs.LineLaws.{line-some, line-within}
 use Rattle.state.specs.Limits.{mostStashes, tableBytes}
 use Rattle.state.specs.Refusals.{none, totalDiffers}
 use Rattle.state.specs.Stashes.{Table, Whole, tableAt, emptyTable, heldIn}
-use Rattle.state.specs.States.{refusing, noRefusal}
+use Rattle.state.specs.States.{refusing, refusingAt, noRefusal}
 use Rattle.state.specs.Sums.{bound, bounded}
 use Rattle.state.specs.declared.Refusal.{Refusal}
 use Rattle.state.proofs.TableLaws.{none-held}
 use Rattle.command.specs.Commands.{commandOf}
+use Rattle.command.specs.Faults.{faultOf, faultByte}
+use Rattle.command.specs.declared.faults.Fault.{Fault}
+use Rattle.command.specs.declared.faults.Fault.the-variants as fault
+use Rattle.command.specs.declared.Command.the-variants.{Bad}
 use Rattle.command.proofs.CommandLaws.{command-hash}
+use Rattle.command.proofs.FaultLaws.{byte-at, byte-none, fault-bad}
+use Rattle.faults.proofs.Faults.{fault-within}
 use Rattle.rules.specs.Held.{heldAfter, tableAfter}
 use Rattle.rules.specs.Rules.{refusalOf, checkedOf}
 use Rattle.rules.specs.declared.Checked.{Checked}
@@ -76,9 +82,17 @@ module _ {list : List ℕ} {terms : Terms} {h : Header} {t : Table} {line at cou
     unfolding checkedOf
     line-is = ap (λ (c : Checked). c .line) f ∙ rw e
 
-    line-refused : (k .refusal ≡ none → ⊥) → refusing (k .refusal) line ≡ whole list terms h
-    line-refused r =
-        rw number-is (sym (lines-refused (v .n) list terms h line at (heldIn t) (v .total) left w (λ q. r (number-is ∙ q))) ∙ v .same)
+    line-refused : {byte : ℕ} → (k .refusal ≡ none → ⊥) → byte ≡ faultByte at (k .line .command) →
+        refusingAt (k .refusal) line byte ≡ whole list terms h
+    line-refused r q =
+        rw (q, number-is, line-is)
+        (sym (lines-refused (v .n) list terms h line at (heldIn t) (v .total) left w (λ z. r (number-is ∙ z))) ∙ v .same)
+
+    -- a fault lies within its line
+    fault-room : {f : Fault} {p : ℕ} → f ≡ faultOf (k .line .command) → f ≡ fault.At p → at + p ≤ length list
+    fault-room {f} {p} q g =
+        let z : commandOf (lineAt list at) .command ≡ Bad p = fault-bad (commandOf (lineAt list at) .command) (rw (sym line-is) (sym q ∙ g)) in
+        omega (arith, fault-within (lineAt list at) z, line-within list at w)
 
     module _ (most : terms .stashes ≤ mostStashes) (z : k .refusal ≡ none) where
       passes : refusalOf (lineAt list at) terms (heldIn t) ≡ none
@@ -134,6 +148,9 @@ loop-holds c = checking-start _ _ _
 abbrev read : tie.After-check-line Inv-loop μ-loop → tie.After-line-at Inv-loop μ-loop
 read c = c .before .before .before .before
 
+abbrev refused : tie.Then1 Inv-loop μ-loop → tie.After-check-line Inv-loop μ-loop
+refused c = c .before .before .before
+
 abbrev passed : tie.After-bounded-sum Inv-loop μ-loop → tie.After-check-line Inv-loop μ-loop
 passed c = c .before .before .before .before .before .before .before .before
 
@@ -143,10 +160,32 @@ line-at-requires c κs = search needs
 check-line-requires : tie.Need-check-line-requires Inv-loop μ-loop
 check-line-requires c κs = search needs
 
+fault-of-requires : tie.Need-fault-of-requires Inv-loop μ-loop
+fault-of-requires c κs = search needs
+
+enum-known-p : tie.Need-enum-known-p Inv-loop μ-loop
+enum-known-p c = search needs
+
+add-byte : tie.Need-add-byte Inv-loop μ-loop
+add-byte c =
+    let k = refused (c .before .before .before .before) in
+    let w = fault-room (read k .before .before .loop .inv) (omega arith) (read k .line-at .ensures) (k .check-line .ensures) (c .before .before .before .fault-of .ensures) (c .before .p .given .1) in
+    omega arith
+
+enum-told : tie.Need-enum-told Inv-loop μ-loop
+enum-told c = search needs
+
 returns : tie.Need-returns Inv-loop μ-loop
 returns c =
-    let k = c .before .before in
+    let k = refused (c .before .before .before .before) in
     line-refused (read k .before .before .loop .inv) (omega arith) (read k .line-at .ensures) (k .check-line .ensures) (omega arith)
+    (byte-at _ _ (c .before .before .before .fault-of .ensures) (c .before .p .given .1))
+
+returns-2 : tie.Need-returns-2 Inv-loop μ-loop
+returns-2 c =
+    let k = refused (c .before .before .before) in
+    line-refused (read k .before .before .loop .inv) (omega arith) (read k .line-at .ensures) (k .check-line .ensures) (omega arith)
+    (byte-none _ _ (c .before .before .fault-of .ensures) (c .enum-told .given .1))
 
 hold-after-requires : tie.Need-hold-after-requires Inv-loop μ-loop
 hold-after-requires c κs = search needs
@@ -175,11 +214,11 @@ loop-again c =
 cast-if2 : tie.Need-cast-if2 Inv-loop μ-loop
 cast-if2 c = omega arith
 
-returns-2 : tie.Need-returns-2 Inv-loop μ-loop
-returns-2 c = total-differs (c .before .before .before .loop .inv) (omega arith) (omega arith) (omega arith)
-
 returns-3 : tie.Need-returns-3 Inv-loop μ-loop
-returns-3 c = none-refused (c .before .before .before .loop .inv) (omega arith) (omega arith) (omega arith)
+returns-3 c = total-differs (c .before .before .before .loop .inv) (omega arith) (omega arith) (omega arith)
+
+returns-4 : tie.Need-returns-4 Inv-loop μ-loop
+returns-4 c = none-refused (c .before .before .before .loop .inv) (omega arith) (omega arith) (omega arith)
 
 pub check-lines-spec : {M : Type 1} → statement M
 check-lines-spec =
@@ -190,7 +229,12 @@ check-lines-spec =
     loop-holds
     line-at-requires
     check-line-requires
+    fault-of-requires
+    enum-known-p
+    add-byte
+    enum-told
     returns
+    returns-2
     hold-after-requires
     counted-blocks-requires
     bounded-sum-requires
@@ -199,5 +243,5 @@ check-lines-spec =
     loop-less
     loop-again
     cast-if2
-    returns-2
-    returns-3)
+    returns-3
+    returns-4)

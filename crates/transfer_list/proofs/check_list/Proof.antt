@@ -32,7 +32,7 @@ module _ (s : List ℕ) (lengths : Lengths) {start : Refusal} (e : start ≡ sta
     started : startRefusal s lengths .number ≡ none
     started = sym (ap (λ (r : Refusal). r .number) e) ∙ z
 
-    no-header : {line : ℕ} → read ≡ Bad line → noRefusal ≡ openRefusal s lengths
+    no-header : {line byte : ℕ} → read ≡ Bad line byte → noRefusal ≡ openRefusal s lengths
     unfolding openRefusal commandsRefusal
     no-header g = rw (started, sym f ∙ g)
 

@@ -37,7 +37,7 @@ module _ (s : List ℕ) (lengths : Lengths) {r : Refusal} {t : State} (e : r ≡
     unfolding firstAt
     accepted-good q g = accepted (rw q g)
 
-    accepted-bad : {line : ℕ} → read ≡ Bad line → t ≡ stateAt firstLine 0 noRefusal lengths → t ≡ openState s lengths
+    accepted-bad : {line byte : ℕ} → read ≡ Bad line byte → t ≡ stateAt firstLine 0 noRefusal lengths → t ≡ openState s lengths
     unfolding firstAt
     accepted-bad q g = accepted (rw q g)
 

@@ -24,8 +24,8 @@ number-line-requires-2 c κs = search needs
 enum-known-outcome : tie.Need-enum-known-outcome
 enum-known-outcome c = search needs
 
-refused-line-requires : tie.Need-refused-line-requires
-refused-line-requires c κs = search needs
+refusal-line-requires : tie.Need-refusal-line-requires
+refusal-line-requires c κs = search needs
 
 returns : tie.Need-returns
 returns c = rw (c .before .before .enum-told .given .1) (c .number-line .ensures)
@@ -34,7 +34,7 @@ returns-2 : tie.Need-returns-2
 returns-2 c = rw (c .before .before .enum-told2 .given .1) (c .number-line2 .ensures)
 
 returns-3 : tie.Need-returns-3
-returns-3 c = rw (c .before .before .outcome .given .1) (c .refused-line .ensures)
+returns-3 c = rw (c .before .before .outcome .given .1) (c .refusal-line .ensures)
 
 pub answer-line-spec : {M : Type 1} → statement M
 answer-line-spec =
@@ -47,7 +47,7 @@ answer-line-spec =
     slice-aggregate-number-line-2
     number-line-requires-2
     enum-known-outcome
-    refused-line-requires
+    refusal-line-requires
     returns
     returns-2
     returns-3)

@@ -19,7 +19,7 @@ use Rattle.updater.specs.Run.{machine}
 use Rattle.updater.specs.Fits.{Fits}
 use Rattle.updater.proofs.RunnableLaws.{keeps, next-line}
 use Rattle.updater.proofs.FitLaws.{fits-sound}
-use Rattle.updater.proofs.RunLaws.{Checks, Turned, checked-at, checked-runs, new-in-image, new-counts}
+use Rattle.updater.proofs.RunLaws.{Checks, Turned, checked-at, checked-fault, checked-runs, new-in-image, new-counts}
 use Rattle.updater.proofs.RunLaws.{stops-finished, refuses, halts, runs, lacks, fills, came}
 use Rattle.updater.proofs.run.run_lines.Statement.{statement}
 use Rattle.updater.proofs.run.run_lines.Tie as tie
@@ -65,6 +65,9 @@ line c = c .before .before .before .before .before .before
 abbrev new-at : Taken → New
 new-at c = c .before .before .before
 
+abbrev refused : tie.After-fault-byte Inv-lines μ-lines → Line
+refused c = c .before .before .before .before
+
 abbrev line-of : Done → Line
 line-of c = c .before .before .before .before .before .before .before .before .before .before .before .before .before
 
@@ -109,13 +112,13 @@ checks c =
     }
 
 accepted : (c : New) → line c .check-line .result .refusal ≡ none
-accepted c = c .before .before .before .before .if1 .left
+accepted c = c .before .before .before .if1 .left
 
 wants-new : (c : New) → newTarget (line c .check-line .result .line .command) ≡ new.Set (c .set .given .0 .0)
 wants-new c = sym (c .before .before .new-target .ensures) ∙ c .set .given .1
 
 done-accepted : (c : Done) → line-of c .check-line .result .refusal ≡ none
-done-accepted c = c .before .before .before .before .before .before .before .before .before .before .before .if1 .left
+done-accepted c = c .before .before .before .before .before .before .before .before .before .before .if1 .left
 
 wants-none : (c : Done) → newTarget (line-of c .check-line .result .line .command) ≡ new.None
 wants-none c = sym (c .before .before .before .before .before .before .before .before .before .new-target .ensures) ∙ c .before .before .before .before .before .before .before .enum-told .given .1
@@ -166,6 +169,9 @@ line-at-requires c κs = tt
 check-line-requires : tie.Need-check-line-requires Inv-lines μ-lines
 check-line-requires c κs = tt
 
+fault-byte-requires : tie.Need-fault-byte-requires Inv-lines μ-lines
+fault-byte-requires c κs = let d = c .before .before .before in checked-fault (kept (turn d) .keeps) (checks d)
+
 new-target-requires : tie.Need-new-target-requires Inv-lines μ-lines
 new-target-requires c κs = tt
 
@@ -212,7 +218,7 @@ run-command-requires : tie.Need-run-command-requires Inv-lines μ-lines
 run-command-requires c κs =
     let d = c .before .before .before .before .before .before .before .before .before .before .before .before in
     let f = kept (turn d) .keeps in
-    (keeps _ _ _ f, checked-runs f (checks d) (c .before .before .before .before .before .before .before .before .before .before .if1 .left))
+    (keeps _ _ _ f, checked-runs f (checks d) (c .before .before .before .before .before .before .before .before .before .if1 .left))
 
 hold-after-requires : tie.Need-hold-after-requires Inv-lines μ-lines
 hold-after-requires c κs = tt
@@ -251,19 +257,19 @@ returns : tie.Need-returns Inv-lines μ-lines
 returns c = came _ _ (stops-finished (kept (c .before)) (c .lines-test .left))
 
 same-length-5 : tie.Need-same-length-5 Inv-lines μ-lines
-same-length-5 c = turn (c .before .before) .lines .inv .0
+same-length-5 c = turn (refused c) .lines .inv .0
 
 same-length-6 : tie.Need-same-length-6 Inv-lines μ-lines
-same-length-6 c = turn (c .before .before) .lines .inv .1
+same-length-6 c = turn (refused c) .lines .inv .1
 
 same-length-7 : tie.Need-same-length-7 Inv-lines μ-lines
-same-length-7 c = turn (c .before .before) .lines .inv .2
+same-length-7 c = turn (refused c) .lines .inv .2
 
 same-length-8 : tie.Need-same-length-8 Inv-lines μ-lines
-same-length-8 c = turn (c .before .before) .lines .inv .3
+same-length-8 c = turn (refused c) .lines .inv .3
 
 returns-2 : tie.Need-returns-2 Inv-lines μ-lines
-returns-2 c = let d = c .before .before in came _ _ (refuses (kept (turn d)) (checks d) (c .if1 .taken))
+returns-2 c = let d = refused c in came _ _ (refuses (kept (turn d)) (checks d) (c .before .if1 .taken) (c .fault-byte .ensures))
 
 same-length-9 : tie.Need-same-length-9 Inv-lines μ-lines
 same-length-9 c = let x = c .before .before .before .before in x .take-new .kept .0 ∙ turn (line (new-at x)) .lines .inv .0
@@ -311,6 +317,7 @@ run-lines-spec =
     lines-holds
     line-at-requires
     check-line-requires
+    fault-byte-requires
     new-target-requires
     enum-known-set
     take-new-requires

@@ -1,0 +1,14 @@
+pub mod LanguageLaws
+pub mod Seen
+pub mod Numbers
+pub mod Needs
+pub mod Marks
+pub mod Sets
+pub mod Hashes
+pub mod Fields
+pub mod Parts
+pub mod Rests
+pub mod CommandLines
+pub mod Faults
+pub mod Ends
+pub mod Examples

@@ -1,0 +1,3 @@
+pub mod Language
+pub mod Lines
+pub mod Findings

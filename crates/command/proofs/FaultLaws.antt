@@ -1,6 +1,6 @@
 -- The fault of a command that was asked for it: the byte that is reported, and which line has one.
 -- Assumes nothing.
-use mathlib.Core.Path.{_≡_, refl, sym, _∙_}
+use mathlib.Core.Path.{_≡_, sym, _∙_}
 use Prim.Native.Nat.{ℕ, _+_}
 use native.Mathlib.Omega.{arith}
 use Rattle.command.specs.declared.faults.Fault.{Fault}

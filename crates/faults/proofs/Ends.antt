@@ -1,4 +1,5 @@
--- A good line has one LF, its last byte. So the first fault of a line of a text is at one of its bytes, or at the text's end.
+-- A good line has one LF, its last byte. So the first fault of a line of a text is at one of its bytes, or at the text's end. And its bytes are
+-- characters below 128: what a line could go on with are bytes, though the definitions speak of numbers without a bound.
 -- Assumes nothing.
 use mathlib.Core.Path.{_≡_, refl, sym, ap, _∙_, subst}
 use mathlib.Core.Bool.{Bool, true, false}
@@ -9,13 +10,14 @@ use mathlib.Core.List.{List, [], _∷_, _++_, append-nil}
 use lib.ListN.{length, drop, length-drop, length-append}
 use lib.Seq.{take-length}
 use lib.Dec.{leb, eqb}
-use borrow.Author.Tests.{eq-eqb, ne-eqb, leb-true, leb-false}
+use borrow.Author.Tests.{eq-eqb, ne-eqb, leb-true, leb-false, le-leb}
 use Rattle.text.specs.Choice.{pick, both, either, no}
 use Rattle.text.specs.Expected.{lf, space, comma, colon, dash}
 use Rattle.text.specs.Line.{lineOf, lineAt}
 use Rattle.text.specs.Number.{isDigit, then, isCount}
 use Rattle.text.specs.Hash.{hashBytes}
-use Rattle.text.proofs.ChoiceLaws.{both-true}
+use Rattle.text.specs.Below.{AllBelow}
+use Rattle.text.proofs.ChoiceLaws.{both-true, no-true}
 use Rattle.command.specs.Words.{spelling}
 use Rattle.command.specs.declared.word.RangeWord.the-variants as range
 use Rattle.command.specs.declared.word.HashWord.the-variants as hash
@@ -24,34 +26,48 @@ use Rattle.command.specs.declared.word.Word.the-variants as word
 use Rattle.faults.specs.Language.{Language, FirstFault, End, Byte, Or}
 use Rattle.faults.specs.Lines.{Digits, NumberThat, any, isHexDigit, HexDigit, Octets, Pairs, RangeSet, LineEnd, PartsOf, Parts, Source, LastSet, Sourced, Rest, Bytes, CommandLine, HeaderLine}
 
--- a text of the language is a line: its first LF is its last byte
+-- a line: its first LF is its last byte, and its bytes are characters
+pub record IsLine (t : List ℕ) : Type 0 where
+  pub ended : lineOf t ≡ t
+  pub characters : AllBelow 128 t
+
+-- every text of the language is a line
 abbrev pub Ends : Language → Type 0
-Ends L = (t : List ℕ) → L t → lineOf t ≡ t
+Ends L = (t : List ℕ) → L t → IsLine t
+
+-- a character within a line
+abbrev isPlain : ℕ → Bool
+isPlain b = both (no (eqb b lf)) (leb b 127)
 
 -- ---- each way to say which texts are good
 
-line-on : (b : ℕ) (t : List ℕ) → eqb b lf ≡ false → lineOf t ≡ t → lineOf (b ∷ t) ≡ b ∷ t
-unfolding lineOf
-line-on b t e h = rw (e, h)
+line-on : (b : ℕ) (t : List ℕ) → isPlain b ≡ true → IsLine t → IsLine (b ∷ t)
+unfolding lineOf AllBelow
+line-on b t e l =
+    let p = both-true (no (eqb b lf)) (leb b 127) e in
+    record { ended = rw (no-true (eqb b lf) (p .0), l .ended); characters = (omega (arith, leb-true b 127 (p .1)), l .characters) }
 
-byte-ends : (m : ℕ) {K : Language} → eqb m lf ≡ false → Ends K → Ends (Byte m K)
+byte-ends : (m : ℕ) {K : Language} → isPlain m ≡ true → Ends K → Ends (Byte m K)
 unfolding Byte
 byte-ends m e k [] d = absurd d
-byte-ends m e k (b ∷ t) d = line-on b t (subst (λ (c : ℕ). eqb c lf ≡ false) (sym (d .0)) e) (k t (d .1))
+byte-ends m e k (b ∷ t) d = line-on b t (subst (λ (c : ℕ). isPlain c ≡ true) (sym (d .0)) e) (k t (d .1))
 
 line-end-ends : Ends LineEnd
-unfolding Byte End lineOf
+unfolding Byte End lineOf AllBelow
 line-end-ends [] d = absurd d
-line-end-ends (b ∷ []) d = rw (eq-eqb b lf (d .0))
+line-end-ends (b ∷ []) d = record { ended = rw (eq-eqb b lf (d .0)); characters = (omega (arith, d .0), tt) }
 line-end-ends (b ∷ c ∷ t) d = absurd (d .1)
 
 or-ends : {K L : Language} → Ends K → Ends L → Ends (Or K L)
 or-ends k l t = ⊎-elim (k t) (l t)
 
-digit-on : (b : ℕ) → isDigit b ≡ true → eqb b lf ≡ false
+plain-within : (b : ℕ) → 48 ≤ b → b ≤ 127 → isPlain b ≡ true
+plain-within b l h = rw (ne-eqb b lf (λ (z : b ≡ lf). omega (arith, l, z)), le-leb b 127 h)
+
+digit-on : (b : ℕ) → isDigit b ≡ true → isPlain b ≡ true
 digit-on b e =
-    let h = leb-true 48 b (both-true (leb 48 b) (leb b 57) e .0) in
-    ne-eqb b lf (λ (z : b ≡ lf). omega arith)
+    let d = both-true (leb 48 b) (leb b 57) e in
+    plain-within b (leb-true 48 b (d .0)) (omega (arith, leb-true b 57 (d .1)))
 
 digits-ends : (test : ℕ → Bool) (K : ℕ → Language) → ((v : ℕ) → Ends (K v)) → (v : ℕ) → Ends (Digits test K v)
 unfolding Digits
@@ -64,13 +80,14 @@ unfolding NumberThat
 number-ends test K k [] d = absurd d
 number-ends test K k (b ∷ t) d = line-on b t (digit-on b (d .0)) (digits-ends test K k (b - 48) t (d .1))
 
-hex-on : (b : ℕ) → isHexDigit b ≡ true → eqb b lf ≡ false
-hex-on b = go (leb 48 b) (leb 97 b) refl refl
+hex-on : (b : ℕ) → isHexDigit b ≡ true → isPlain b ≡ true
+hex-on b = go (isDigit b) refl
   where
-    go : (p q : Bool) → leb 48 b ≡ p → leb 97 b ≡ q → either (both p (leb b 57)) (both q (leb b 102)) ≡ true → eqb b lf ≡ false
-    go true q e f h = let l = leb-true 48 b e in ne-eqb b lf (λ (z : b ≡ lf). omega arith)
-    go false true e f h = let l = leb-true 97 b f in ne-eqb b lf (λ (z : b ≡ lf). omega arith)
-    go false false e f h = absurd (let z : _≡_ {A = ℕ} 0 1 = cc in omega arith)
+    go : (p : Bool) → isDigit b ≡ p → either p (both (leb 97 b) (leb b 102)) ≡ true → isPlain b ≡ true
+    go true d h = digit-on b d
+    go false d h =
+        let l = both-true (leb 97 b) (leb b 102) h in
+        plain-within b (omega (arith, leb-true 97 b (l .0))) (omega (arith, leb-true b 102 (l .1)))
 
 hex-ends : {K : Language} → Ends K → Ends (HexDigit K)
 unfolding HexDigit
@@ -130,23 +147,19 @@ rest-ends word.Bsdiff =
 rest-ends word.Imgdiff = λ t d. absurd d
 rest-ends word.Unknown = λ t d. absurd d
 
--- no word has an LF
-abbrev noLf : List ℕ → Bool
-noLf [] = true
-noLf (c ∷ bytes) = both (no (eqb c lf)) (noLf bytes)
+-- the characters of a word
+abbrev arePlain : List ℕ → Bool
+arePlain [] = true
+arePlain (c ∷ bytes) = both (isPlain c) (arePlain bytes)
 
-bytes-ends : (bytes : List ℕ) {K : Language} → noLf bytes ≡ true → Ends K → Ends (Bytes bytes K)
+bytes-ends : (bytes : List ℕ) {K : Language} → arePlain bytes ≡ true → Ends K → Ends (Bytes bytes K)
 unfolding Bytes
 bytes-ends [] e k = k
 bytes-ends (c ∷ bytes) e k =
-    let b = both-true (no (eqb c lf)) (noLf bytes) e in
-    byte-ends c (go (eqb c lf) (b .0)) (bytes-ends bytes (b .1) k)
-  where
-    go : (t : Bool) → no t ≡ true → t ≡ false
-    go true h = sym h
-    go false h = refl
+    let b = both-true (isPlain c) (arePlain bytes) e in
+    byte-ends c (b .0) (bytes-ends bytes (b .1) k)
 
-word-plain : (w : Word) → noLf (spelling w) ≡ true
+word-plain : (w : Word) → arePlain (spelling w) ≡ true
 word-plain (word.Ranges range.Zero) = refl
 word-plain (word.Ranges range.Erase) = refl
 word-plain (word.Ranges range.New) = refl
@@ -205,5 +218,5 @@ module _ (L : Language) (ends : Ends L) (s : List ℕ) (at : ℕ) (h : at ≤ le
           whole z k =
               let l = lineOf (drop at s) in
               let g : L (l ++ f .goes .0) = rw (z, take-length l) at (f .goes .1) in
-              let n = nothing-more l (f .goes .0) (sym (k (f .goes .0)) ∙ ends (l ++ f .goes .0) g) in
+              let n = nothing-more l (f .goes .0) (sym (k (f .goes .0)) ∙ ends (l ++ f .goes .0) g .ended) in
               subst L (ap (λ (r : List ℕ). l ++ r) n ∙ append-nil l) g

@@ -1,4 +1,5 @@
--- What is asked of a number: `canMeet` is true of the digits read so far exactly if some number that is asked for begins with them.
+-- What is asked of a number: where `canMeet` is true of the digits read so far, some number that is asked for begins with them. (That it is true
+-- only then is `need-holds` of text.)
 -- Assumes nothing.
 use mathlib.Core.Path.{_≡_, refl, _∙_, subst}
 use mathlib.Core.Bool.{Bool, true, false}
@@ -7,16 +8,13 @@ use Prim.Native.Nat.{ℕ, zero, suc, _+_, _*_, _/_, _%_, _≤_, _<_, max}
 use native.Mathlib.Omega.{arith}
 use mathlib.Core.List.{List, [], _∷_}
 use lib.Dec.{leb, ltb, eqb}
-use borrow.Author.Tests.{leb-true, ltb-true, le-leb, lt-ltb, eq-eqb, eqb-true}
+use borrow.Author.Tests.{leb-true, ltb-true, le-leb, eq-eqb, eqb-true}
 use Rattle.text.specs.Choice.{either}
 use Rattle.text.specs.Number.{largest, digitsMost, isDigit, then, isCount, meets, reaches, canMeet}
 use Rattle.text.specs.declared.number.Need.the-variants as need
 use Rattle.text.proofs.ChoiceLaws.{both-true, both-is, either-or-false}
-use Rattle.faults.proofs.Numbers.{Written, last, more, Exact, digit-most}
-
-either-is : (t : Bool) {u : Bool} → u ≡ true → either t u ≡ true
-either-is true e = refl
-either-is false e = e
+use Rattle.text.proofs.NeedLaws.{Written, last, more, need-holds}
+use Rattle.faults.proofs.Numbers.{Exact}
 
 either-true : (t u : Bool) → either t u ≡ true → (t ≡ true) ⊎ (u ≡ true)
 either-true true u e = inl refl
@@ -27,7 +25,7 @@ either-true false u e = inr e
 pub any-exact : Exact need.Any
 unfolding meets canMeet
 any-exact =
-    record { digit = 48; is-digit = refl; starts = refl; grows = λ v l e. (v, [], last, refl); holds = λ x l e. refl }
+    record { digit = 48; is-digit = refl; starts = refl; grows = λ v l e. (v, [], last, refl) }
 
 -- ---- a count: an odd number takes a zero more, if there is room
 
@@ -45,16 +43,10 @@ count-grows v e =
     (then v 48, 48 ∷ [], more {b = 48} refl l (omega arith) last, count-even (then v 48) (omega arith) (omega arith)))
     (either-true (eqb (v % 2) 0) (leb (v * 10) largest) (p .1))
 
-count-holds : {v w : ℕ} {s t : List ℕ} → Written v w s t → isCount w ≡ true → canMeet need.Count v ≡ true
-unfolding canMeet
-count-holds (last {v}) e =
-    let p = both-true (eqb (v % 2) 0) (leb 2 v) e in both-is (lt-ltb 0 v (omega (arith, leb-true 2 v (p .1)))) (rw (p .0))
-count-holds (more {v} d p m x) e = both-is (lt-ltb 0 v p) (either-is (eqb (v % 2) 0) (le-leb (v * 10) largest (omega arith)))
-
 pub count-exact : Exact need.Count
 unfolding meets canMeet
 count-exact =
-    record { digit = 50; is-digit = refl; starts = refl; grows = λ v l e. count-grows v e; holds = λ x l e. count-holds x e }
+    record { digit = 50; is-digit = refl; starts = refl; grows = λ v l e. count-grows v e }
 
 -- ---- a number from another on. Those that have j digits more than v lie from `lowest j v` to `highest j v`, and each is written
 
@@ -120,27 +112,6 @@ module _ (low : ℕ) where
       let x = write (k .0) (suc u) w [] (omega arith) (omega arith) (omega (arith, k .2)) (omega (arith, k .1)) in
       (w, x .0, x .1, le-leb low w (omega arith))
 
-  -- so many digits more are past the largest number
-  unfoldable Enough : ℕ → ℕ → Type 0
-  Enough zero first = largest < first
-  Enough (suc n) first = Enough n (first * 10)
-
-  reaches-holds : (n first most : ℕ) {v w : ℕ} {s t : List ℕ} → Written v w s t → 0 < first → first ≤ v → v ≤ most → v ≤ largest →
-      Enough n first → leb low w ≡ true → reaches n low first most ≡ true
-  unfolding reaches Enough
-  reaches-holds zero first most x p a b m enough e = absurd (omega arith)
-  reaches-holds (suc n) first most (last {v}) p a b m enough e = rw (le-leb low most (omega (arith, leb-true low v e)))
-  reaches-holds (suc n) first most (more {v} {b = c} d q r x) p a b m enough e =
-      either-is (leb low most)
-      (both-is (lt-ltb 0 first p) (both-is (le-leb (first * 10) largest (omega arith))
-      (reaches-holds n (first * 10) (most * 10 + 9) x (omega arith) (omega arith) (omega (arith, digit-most c d)) r enough e)))
-
-  least-holds : {v w : ℕ} {s t : List ℕ} → Written v w s t → v ≤ largest → leb low w ≡ true → reaches digitsMost low v v ≡ true
-  unfolding reaches Enough
-  least-holds {v = zero} last l e = rw e
-  least-holds {v = zero} (more d p m x) l e = absurd (omega arith)
-  least-holds {v = suc u} x l e = reaches-holds digitsMost (suc u) (suc u) x (omega arith) (omega arith) (omega arith) l (omega arith) e
-
   -- the largest number begins with 4, and has nine digits more
   pub least-exact : low ≤ largest → Exact (need.AtLeast low)
   unfolding meets canMeet lowest highest
@@ -149,7 +120,7 @@ module _ (low : ℕ) where
         digit = 52;
         is-digit = refl;
         starts =
-            least-holds (write 9 4 largest [] (omega arith) (omega arith) (omega arith) (omega arith) .1) (omega arith) (le-leb low largest m);
+            need-holds (need.AtLeast low) (write 9 4 largest [] (omega arith) (omega arith) (omega arith) (omega arith) .1) (omega arith)
+            (le-leb low largest m);
         grows = λ v l e. least-grows m v l e;
-        holds = λ x l e. least-holds x l e;
       }

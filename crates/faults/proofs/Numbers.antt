@@ -4,7 +4,7 @@
 use mathlib.Core.Path.{_≡_, refl, sym, subst}
 use mathlib.Core.Bool.{Bool, true, false}
 use mathlib.Core.Logic.{inl, inr, ⊎-elim}
-use Prim.Native.Nat.{ℕ, zero, suc, _-_, _≤_, _<_}
+use Prim.Native.Nat.{ℕ, zero, suc, _-_, _≤_}
 use native.Mathlib.Omega.{arith}
 use mathlib.Core.List.{List, [], _∷_, _++_}
 use lib.ListN.{drop}
@@ -17,6 +17,7 @@ use Rattle.text.specs.declared.number.Need.{Need}
 use Rattle.text.specs.declared.number.Number.{Number}
 use Rattle.text.specs.declared.number.Number.the-variants.{Good, Bad}
 use Rattle.text.proofs.ChoiceLaws.{picks, both-true, both-is}
+use Rattle.text.proofs.NeedLaws.{Written, last, more, digit-most, need-holds}
 use Rattle.faults.specs.Language.{Language, GoesOn, Finding, fault}
 use Rattle.faults.specs.Lines.{Digits, NumberThat}
 use Rattle.faults.proofs.LanguageLaws.{Reads, Starting, starting, fault-here, step, same, same-start}
@@ -25,18 +26,10 @@ use Rattle.faults.proofs.Seen.{seen, OnlyLf}
 pub clash : {t : Bool} → t ≡ true → t ≡ false → ⊥
 clash e f = let z : _≡_ {A = ℕ} 0 1 = cc in omega arith
 
-pub digit-most : (b : ℕ) → isDigit b ≡ true → b - 48 ≤ 9
-digit-most b e = omega (arith, leb-true b 57 (both-true (leb 48 b) (leb b 57) e .1))
-
 digit-no-lf : (b : ℕ) → isDigit b ≡ true → eqb b lf ≡ false
 digit-no-lf b e = ne-eqb b lf (λ h. omega (arith, leb-true 48 b (both-true (leb 48 b) (leb b 57) e .0)))
 
 -- ---- how a number is written
-
--- s is some digits and then t; the digits, written after those of v, make w
-pub data Written : ℕ → ℕ → List ℕ → List ℕ → Type 0 where
-  last : {v : ℕ} {t : List ℕ} → Written v v t t
-  more : {v w b : ℕ} {s t : List ℕ} → isDigit b ≡ true → 0 < v → then v b ≤ largest → Written (then v b) w s t → Written v w (b ∷ s) t
 
 written-most : {v w : ℕ} {s t : List ℕ} → Written v w s t → v ≤ largest → w ≤ largest
 written-most last l = l
@@ -66,13 +59,12 @@ module _ (test : ℕ → Bool) (K : ℕ → Language) where
 
 -- ---- what is asked of a need
 
--- a number that is asked for begins with the digits of v exactly if `canMeet` says so; and some digit begins one
+-- a number that is asked for begins with the digits of v if `canMeet` says so (only then, by `need-holds`); and some digit begins one
 pub record Exact (n : Need) : Type 0 where
   pub digit : ℕ
   pub is-digit : isDigit digit ≡ true
   pub starts : canMeet n (digit - 48) ≡ true
   pub grows : (v : ℕ) → v ≤ largest → canMeet n v ≡ true → (w : ℕ) × (s : List ℕ) × Written v w s [] × (meets n w ≡ true)
-  pub holds : {v w : ℕ} {s t : List ℕ} → Written v w s t → v ≤ largest → meets n w ≡ true → canMeet n v ≡ true
 
 module _ (n : Need) (x : Exact n) (K : ℕ → Language) (alive : (w : ℕ) → meets n w ≡ true → w ≤ largest → GoesOn (K w) []) where
   digits-alive : (v : ℕ) → v ≤ largest → canMeet n v ≡ true → GoesOn (Digits (meets n) K v) []
@@ -145,7 +137,7 @@ module _ (stop : ℕ → Bool) (only : OnlyLf stop) (n : Need) (x : Exact n) (K 
       no-more digit e t = ⊎-elim
           (λ z. apart v b t digit (z .1))
           (λ z. let y = written-of (meets n) K (then v b) t (z .3) in
-          clash (both-is (lt-ltb 0 v (z .1)) (both-is (le-leb (then v b) largest (z .2)) (x .holds (y .2) (z .2) (y .3)))) e)
+          clash (both-is (lt-ltb 0 v (z .1)) (both-is (le-leb (then v b) largest (z .2)) (need-holds n (y .2) (z .2) (y .3)))) e)
 
       goes : isDigit b ≡ true → passes v b ≡ true →
           (then v b ≤ largest → canMeet n (then v b) ≡ true → Reads (D (then v b)) (suc i) (seen stop bs) (f (digits n (then v b) (suc i) bs))) →
@@ -177,7 +169,7 @@ module _ (stop : ℕ → Bool) (only : OnlyLf stop) (n : Need) (x : Exact n) (K 
       no-first : both (isDigit b) (canMeet n (b - 48)) ≡ false → (t : List ℕ) → NumberThat (meets n) K (b ∷ t) → ⊥
       no-first e t z =
           let y = written-of (meets n) K (b - 48) t (z .1) in
-          clash (both-is (z .0) (x .holds (y .2) (omega (arith, digit-most b (z .0))) (y .3))) e
+          clash (both-is (z .0) (need-holds n (y .2) (omega (arith, digit-most b (z .0))) (y .3))) e
 
   -- a number at a position, and what follows it
   pub number-found : (at : ℕ) → from ≤ at → Reads (NumberThat (meets n) K) at (seen stop (drop at s)) (f (numberFor n s at))

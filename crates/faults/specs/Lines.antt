@@ -74,7 +74,7 @@ LineEnd = Byte lf End
 abbrev pub Part : Language → Language
 Part K = Hash (Byte colon (RangeSet K))
 
--- n Ps and the line's end
+-- up to n Ps, one at least, and the line's end
 unfoldable pub PartsOf : ℕ → Language
 PartsOf zero = λ s. ⊥
 PartsOf (suc n) = Part (Or LineEnd (Byte space (PartsOf n)))

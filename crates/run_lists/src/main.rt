@@ -10,7 +10,7 @@
 //   |TEXT, +TEXT, repeat N |TEXT       a line of the list; bytes with no LF; a line N times
 //   open                               opens the list over the areas: the state
 //   set at|line|into|count N           alters the state
-//   refusal NUMBER LINE                the same
+//   refusal NUMBER LINE [BYTE]         the same
 //   lengths LIST IMAGE STASH WORK RESULT PATCH   the same
 //   hold HASH BLOCKS                   the same: one stash more
 //   call FROM N                        one call, with N bytes of the new data

@@ -1,15 +1,14 @@
 -- What a call reports of a line that is ill formed: `call-reports` is the theorem of document 02, R-6, for a run.
 -- Assumes nothing.
-use mathlib.Core.Path.{_≡_, refl, sym, subst, _∙_}
+use mathlib.Core.Path.{_≡_, refl, sym, subst}
 use mathlib.Core.Bool.{true, false}
 use mathlib.Core.List.{List}
 use mathlib.Core.Logic.{⊎-elim}
-use Prim.Native.Nat.{ℕ, _≤_, _<_}
+use Prim.Native.Nat.{ℕ, _≤_}
 use native.Mathlib.Omega.{arith}
 use lib.ListN.{length}
 use lib.Dec.{eqb}
 use borrow.Author.Tests.{eqb-true, eqb-false}
-use Rattle.text.specs.Choice.{pick}
 use Rattle.text.proofs.ChoiceLaws.{picks, both-true, either-false}
 use Rattle.state.specs.Limits.{mostStashes, tableBytes}
 use Rattle.state.specs.Refusals.{none, lineForm, hasByte}
@@ -55,7 +54,7 @@ module _ (s : List ℕ) where
         ⊎-elim
         (λ b.
         record {
-          line = λ h. line-fault s (p .state .at) w (b .1);
+          line = λ h. (refl, line-fault s (p .state .at) w (b .1));
           other = λ n m. absurd (m (form-is l terms (held (p .state)) hash (b .1)));
         })
         (λ k.

@@ -8,7 +8,8 @@ use Rattle.state.specs.declared.State.{State}
 use Rattle.faults.specs.Lines.{CommandLine}
 use Rattle.transfer_list.specs.Faults.{FaultAt}
 
--- what the state after a run reports: 6 is the first fault of the line at which the state stands; no other refusal has a byte
+-- what the state after a run reports: 6 names the line at which the state stands, and the byte is the first fault of the line that starts there;
+-- no other refusal has a byte
 pub record CallReports (s : List ℕ) (t : State) : Type 0 where
-  pub line : t .refusal .number ≡ lineForm → FaultAt CommandLine s (t .at) (t .refusal .byte)
+  pub line : t .refusal .number ≡ lineForm → (t .refusal .line ≡ t .line) × FaultAt CommandLine s (t .at) (t .refusal .byte)
   pub other : (t .refusal .number ≡ none → ⊥) → (t .refusal .number ≡ lineForm → ⊥) → t .refusal .byte ≡ 0

@@ -97,8 +97,8 @@ fn number_end(need: Need, v: u32, i: usize) -> Number
     Number::Bad(i)
 }
 
-// The fault is the first byte at which no number that is asked for could go on.
-pub fn read_number_for(s: &[u8], at: usize, need: Need) -> Number
+// With a look after each digit at whether a number that is asked for can still follow: where none can, that digit is the fault.
+fn read_watched(s: &[u8], at: usize, need: Need) -> Number
     ensures { λ r. ⌜ r ≡ numberFor need (now (s .entry)) at ⌝ }
 {
     if s.len() <= at {
@@ -111,18 +111,57 @@ pub fn read_number_for(s: &[u8], at: usize, need: Need) -> Number
     if b'9' < first {
         return Number::Bad(at);
     }
-    let mut v = (first - b'0') as u64;
-    if !can_meet(need, v as u32) {
+    let mut value = (first - b'0') as u64;
+    if !can_meet(need, value as u32) {
         return Number::Bad(at);
     }
     let mut i = at + 1;
     while i < s.len() {
         let b = s[i];
         if b < b'0' {
-            return number_end(need, v as u32, i);
+            return number_end(need, value as u32, i);
         }
         if b'9' < b {
-            return number_end(need, v as u32, i);
+            return number_end(need, value as u32, i);
+        }
+        if value == 0 {
+            return Number::Bad(i);
+        }
+        let longer = value * 10 + (b - b'0') as u64;
+        if LARGEST < longer {
+            return Number::Bad(i);
+        }
+        if !can_meet(need, longer as u32) {
+            return Number::Bad(i);
+        }
+        value = longer;
+        i += 1;
+    }
+    number_end(need, value as u32, i)
+}
+
+pub fn read_number(s: &[u8], at: usize) -> Number
+    ensures { λ r. ⌜ r ≡ numberAt (now (s .entry)) at ⌝ }
+{
+    if s.len() <= at {
+        return Number::Bad(at);
+    }
+    let first = s[at];
+    if first < b'0' {
+        return Number::Bad(at);
+    }
+    if b'9' < first {
+        return Number::Bad(at);
+    }
+    let mut v = (first - b'0') as u64;
+    let mut i = at + 1;
+    while i < s.len() {
+        let b = s[i];
+        if b < b'0' {
+            return Number::Good(v as u32, i);
+        }
+        if b'9' < b {
+            return Number::Good(v as u32, i);
         }
         if v == 0 {
             return Number::Bad(i);
@@ -131,17 +170,25 @@ pub fn read_number_for(s: &[u8], at: usize, need: Need) -> Number
         if LARGEST < w {
             return Number::Bad(i);
         }
-        if !can_meet(need, w as u32) {
-            return Number::Bad(i);
-        }
         v = w;
         i += 1;
     }
-    number_end(need, v as u32, i)
+    Number::Good(v as u32, i)
 }
 
-pub fn read_number(s: &[u8], at: usize) -> Number
-    ensures { λ r. ⌜ r ≡ numberAt (now (s .entry)) at ⌝ }
+// The fault is the first byte at which no number that is asked for could go on. Nearly every number is as it should be, and is read without a
+// look at the need; one that is not is read again for its fault.
+pub fn read_number_for(s: &[u8], at: usize, need: Need) -> Number
+    ensures { λ r. ⌜ r ≡ numberFor need (now (s .entry)) at ⌝ }
 {
-    read_number_for(s, at, Need::Any)
+    let read = read_number(s, at);
+    match read {
+        Number::Good(v, _) => {
+            if meets(need, v) {
+                return read;
+            }
+            read_watched(s, at, need)
+        }
+        Number::Bad(_) => read_watched(s, at, need),
+    }
 }

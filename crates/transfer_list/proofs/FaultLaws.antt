@@ -9,7 +9,7 @@ use native.Mathlib.Omega.{arith}
 use lib.ListN.{length, take, drop, getD, length-drop}
 use lib.Seq.{getD-drop}
 use lib.Dec.{leb, ltb, eqb}
-use borrow.Author.Tests.{eq-eqb, leb-false}
+use borrow.Author.Tests.{eq-eqb, eqb-true, leb-false, ltb-true, ltb-false}
 use Rattle.text.specs.Choice.{pick, no}
 use Rattle.text.specs.Rows.{firstOf}
 use Rattle.text.specs.Expected.{expectedAt, onExpected, lf}
@@ -24,28 +24,27 @@ use Rattle.text.proofs.ExpectedLaws.{expected-next}
 use Rattle.text.proofs.NumberLaws.{number-next, number-no-lf}
 use Rattle.state.specs.Limits.{blockBytes, mostListBytes, mostStashes}
 use Rattle.state.specs.Refusals.{none, areaSize, listLength, headerForm, otherVersion, headerLimit, lineForm, totalDiffers, hasByte}
-use Rattle.state.specs.States.{refusing, noRefusal}
+use Rattle.state.specs.States.{refusing, refusingAt, noRefusal}
 use Rattle.state.specs.Stashes.{Stash}
 use Rattle.state.specs.declared.Lengths.{Lengths}
-use Rattle.state.specs.declared.Refusal.{Refusal}
 use Rattle.state.specs.declared.State.{State}
 use Rattle.command.specs.Commands.{commandOf}
 use Rattle.command.specs.Faults.{faultOf, faultByte}
 use Rattle.command.specs.declared.Command.{Command}
 use Rattle.command.specs.declared.Command.the-variants.{Bad}
+use Rattle.command.specs.declared.Command.the-variants as command
 use Rattle.command.proofs.FaultLaws.{byte-none}
-use Rattle.faults.specs.Language.{FirstFault, Finding, good, fault, Found}
+use Rattle.faults.specs.Language.{Language, FirstFault, good, fault, Found}
 use Rattle.faults.specs.Lines.{HeaderLine, CommandLine}
 use Rattle.faults.specs.Findings.{findingAt}
 use Rattle.faults.proofs.Faults.{command-found, header-found}
 use Rattle.faults.proofs.Ends.{command-ends, header-ends, fault-at}
-use Rattle.rules.specs.Held.{heldAfter}
 use Rattle.rules.specs.Rules.{refusalFor, refusalOf}
 use Rattle.rules.specs.declared.Terms.{Terms}
 use Rattle.rules.proofs.FormLaws.{form-is, form-or-none}
 use Rattle.transfer_list.specs.Header.{headerLineAt, headerOf, version3, firstLine, areAreas, headerRows, startRows, startRefusal}
-use Rattle.transfer_list.specs.Opening.{termsOf, countedBlocks, totalRefusal, lineRefusal, linesRefusal, commandsRefusal, openRefusal, openState, acceptedState, refusedState}
-use Rattle.transfer_list.specs.Faults.{startAfter, lineStart, FaultAt, Reports}
+use Rattle.transfer_list.specs.Opening.{termsOf, totalRefusal, lineRefusal, linesRefusal, commandsRefusal, openRefusal, openState, acceptedState, refusedState}
+use Rattle.transfer_list.specs.Faults.{startAfter, lineStart, FaultAt, GoodBefore, Pinpoints, Reports}
 use Rattle.transfer_list.specs.declared.header.Header.{Header}
 use Rattle.transfer_list.specs.declared.header.HeaderRead.{HeaderRead}
 use Rattle.transfer_list.specs.declared.header.HeaderRead.the-variants as header
@@ -72,6 +71,20 @@ line-length (b ∷ t) (suc k) h e n = go (eqb b lf) n (λ m. line-length t k (om
         length (pick c (b ∷ []) (b ∷ lineOf t)) ≡ suc (suc k)
     go true m f = absurd (omega arith)
     go false m f = ap suc (f m)
+
+-- a line that nothing is refused of is good
+unrefused-good : (at : ℕ) (l : List ℕ) (terms : Terms) (held : List Stash) (hash : List ℕ) (c : Command) →
+    refusalFor l terms held hash c ≡ none → findingAt at c ≡ good
+unfolding refusalFor findingAt
+unrefused-good at l terms held hash (command.Zero set) e = refl
+unrefused-good at l terms held hash (command.Erase set) e = refl
+unrefused-good at l terms held hash (command.New set) e = refl
+unrefused-good at l terms held hash (command.Move target n source) e = refl
+unrefused-good at l terms held hash (command.Bsdiff target n source) e = refl
+unrefused-good at l terms held hash (command.Stash set) e = refl
+unrefused-good at l terms held hash command.Free e = refl
+unrefused-good at l terms held hash command.Unsupported e = absurd (omega (arith, e))
+unrefused-good at l terms held hash (command.Bad p) e = absurd (omega (arith, e))
 
 module _ (s : List ℕ) where
   -- past a header line the next one starts
@@ -108,6 +121,54 @@ module _ (s : List ℕ) where
       let z : line + 1 - 1 ≡ suc (line - 1) = omega arith in
       rw z (start-next (line - 1) e refl)
 
+  -- ---- lines that are good
+
+  good-at-first : GoodBefore s 1
+  good-at-first = record { header = λ k a b c. absurd (omega arith); commands = λ k a b. absurd (omega arith) }
+
+  -- a good line more; `at` is where it starts
+  module _ (line : ℕ) {at : ℕ} (e : at ≡ lineStart s line) (g : GoodBefore s line) where
+    or-this : (L : Language) → L (lineAt s at) → (k : ℕ) → k < suc line → (k < line → L (lineAt s (lineStart s k))) → L (lineAt s (lineStart s k))
+    or-this L here k h earlier = go (ltb k line) refl
+      where
+        go : (t : Bool) → ltb k line ≡ t → L (lineAt s (lineStart s k))
+        go true f = earlier (ltb-true k line f)
+        go false f = let z : line ≡ k = omega (arith, ltb-false k line f) in subst (λ (n : ℕ). L (lineAt s (lineStart s n))) z (rw (sym e) here)
+
+    good-header : line < firstLine → HeaderLine (lineAt s at) → GoodBefore s (suc line)
+    good-header h here =
+        record {
+          header = λ k a b c. or-this HeaderLine here k c (g .header k a b);
+          commands = λ k a b. absurd (omega arith);
+        }
+
+    good-command : firstLine ≤ line → CommandLine (lineAt s at) → GoodBefore s (suc line)
+    good-command h here =
+        record {
+          header = λ k a b c. g .header k a b (omega arith);
+          commands = λ k a b. or-this CommandLine here k b (g .commands k a);
+        }
+
+  header-line-good : (at : ℕ) {v next : ℕ} → headerLineAt s at ≡ number.Good v next → HeaderLine (lineAt s at)
+  unfolding headerLineAt
+  header-line-good at {v} {next} e = subst (Found HeaderLine at (lineAt s at)) (go (numberAt s at) e) (header-found s at)
+    where
+      ended : (w : ℕ) (m : Expected) → onExpected m (λ next. number.Good w next) number.Bad ≡ number.Good v next →
+          onExpected m (λ next. good) fault ≡ good
+      ended w (expected.Past j) h = refl
+      ended w (expected.Bad q) h = absurd (let z : _≡_ {A = ℕ} 0 1 = cc in omega arith)
+
+      go : (n : Number) → onNumber n (λ w i. onExpected (expectedAt s i lf) (λ next. number.Good w next) number.Bad) number.Bad ≡ number.Good v next →
+          onNumber n (λ w i. onExpected (expectedAt s i lf) (λ next. good) fault) fault ≡ good
+      go (number.Good w i) h = ended w (expectedAt s i lf) h
+      go (number.Bad q) h = absurd (let z : _≡_ {A = ℕ} 0 1 = cc in omega arith)
+
+  command-line-good : (at : ℕ) (terms : Terms) (held : List Stash) → refusalOf (lineAt s at) terms held ≡ none → CommandLine (lineAt s at)
+  unfolding refusalOf
+  command-line-good at terms held e =
+      let l = lineAt s at in
+      subst (Found CommandLine at l) (unrefused-good at l terms held (commandOf l .hash) (commandOf l .command) e) (command-found s at)
+
   -- ---- 3
 
   header-fault : (at : ℕ) {p : ℕ} → at ≤ length s → headerLineAt s at ≡ number.Bad p → FaultAt HeaderLine s at p
@@ -127,40 +188,53 @@ module _ (s : List ℕ) where
       go (number.Bad q) h = cc
 
   abbrev HeaderFault : ℕ → ℕ → Type 0
-  HeaderFault line byte = FaultAt HeaderLine s (lineStart s line) byte
+  HeaderFault line byte = (0 < line) × (line < firstLine) × Pinpoints HeaderLine s (refusingAt headerForm line byte)
 
   -- line k of the header, which starts at `at`, is at fault; or the fault is in the rest
-  header-or : (k : ℕ) {at line byte : ℕ} (rest : ℕ → ℕ → HeaderRead) → at ≤ length s → at ≡ lineStart s k →
+  header-or : (k : ℕ) {at line byte : ℕ} (rest : ℕ → ℕ → HeaderRead) → 0 < k → k < firstLine → at ≤ length s → at ≡ lineStart s k → GoodBefore s k →
       onNumber (headerLineAt s at) rest (header.Bad k) ≡ header.Bad line byte →
-      ((v next : ℕ) → headerLineAt s at ≡ number.Good v next → rest v next ≡ header.Bad line byte → HeaderFault line byte) → HeaderFault line byte
-  header-or k {at} {line} {byte} rest w e h more = go (headerLineAt s at) refl h
+      ((v next : ℕ) → headerLineAt s at ≡ number.Good v next → GoodBefore s (suc k) → rest v next ≡ header.Bad line byte → HeaderFault line byte) →
+      HeaderFault line byte
+  header-or k {at} {line} {byte} rest a b w e before h more = go (headerLineAt s at) refl h
     where
       go : (n : Number) → headerLineAt s at ≡ n → onNumber n rest (header.Bad k) ≡ header.Bad line byte → HeaderFault line byte
-      go (number.Good v next) f g = more v next f g
+      go (number.Good v next) f g = more v next f (good-header k e before b (header-line-good at f)) g
       go (number.Bad p) f g =
-          let a : line ≡ k = cc in
-          let b : byte ≡ p = cc in
-          rw (a, b, sym e) (header-fault at w f)
+          let x : line ≡ k = cc in
+          let y : byte ≡ p = cc in
+          rw (x, y) (a, b, record { before = before; fault = rw (sym e) (header-fault at w f) })
 
   header-pinpoints : {line byte : ℕ} → headerOf s ≡ header.Bad line byte → HeaderFault line byte
   unfolding headerOf startAfter
   header-pinpoints h =
-      header-or 1 _ (omega arith) refl h (λ version i l₁ h₁.
-      header-or 2 _ (header-line s 0 l₁ .within) (start-next 0 refl (header-next 0 l₁)) h₁ (λ total j l₂ h₂.
-      header-or 3 _ (header-line s i l₂ .within) (start-next 1 (start-next 0 refl (header-next 0 l₁)) (header-next i l₂)) h₂ (λ stashes k l₃ h₃.
-      header-or 4 _ (header-line s j l₃ .within) (start-next 2 (start-next 1 (start-next 0 refl (header-next 0 l₁)) (header-next i l₂)) (header-next j l₃)) h₃
-      (λ blocks first l₄ h₄. absurd (let z : _≡_ {A = ℕ} 0 1 = cc in omega arith)))))
+      header-or 1 _ (omega arith) (omega arith) (omega arith) refl good-at-first h (λ version i l₁ g₁ h₁.
+      header-or 2 _ (omega arith) (omega arith) (header-line s 0 l₁ .within) (start-next 0 refl (header-next 0 l₁)) g₁ h₁ (λ total j l₂ g₂ h₂.
+      header-or 3 _ (omega arith) (omega arith) (header-line s i l₂ .within)
+      (start-next 1 (start-next 0 refl (header-next 0 l₁)) (header-next i l₂)) g₂ h₂ (λ stashes k l₃ g₃ h₃.
+      header-or 4 _ (omega arith) (omega arith) (header-line s j l₃ .within)
+      (start-next 2 (start-next 1 (start-next 0 refl (header-next 0 l₁)) (header-next i l₂)) (header-next j l₃)) g₃ h₃
+      (λ blocks first l₄ g₄ h₄. absurd (let z : _≡_ {A = ℕ} 0 1 = cc in omega arith)))))
 
-  -- the command lines start with the fifth line
-  first-start : {h : Header} → headerOf s ≡ header.Good h → h .first ≡ lineStart s firstLine
+  -- the command lines start with the fifth line, and the four before it are good
+  abbrev Fifth : ℕ → Type 0
+  Fifth first = (first ≡ lineStart s firstLine) × GoodBefore s firstLine
+
+  first-start : {h : Header} → headerOf s ≡ header.Good h → Fifth (h .first)
   unfolding headerOf startAfter
   first-start e =
       line-then (headerLineAt s 0) _ _ e (λ version i l₁ e₁.
       line-then (headerLineAt s i) _ _ e₁ (λ total j l₂ e₂.
       line-then (headerLineAt s j) _ _ e₂ (λ stashes k l₃ e₃.
       line-then (headerLineAt s k) _ _ e₃ (λ blocks first l₄ e₄.
-      sym (ap (λ (x : Header). x .first) (same-header e₄))
-      ∙ start-next 3 (start-next 2 (start-next 1 (start-next 0 refl (header-next 0 l₁)) (header-next i l₂)) (header-next j l₃)) (header-next k l₄)))))
+      let a₂ = start-next 0 refl (header-next 0 l₁) in
+      let a₃ = start-next 1 a₂ (header-next i l₂) in
+      let a₄ = start-next 2 a₃ (header-next j l₃) in
+      let g₂ = good-header 1 refl good-at-first (omega arith) (header-line-good 0 l₁) in
+      let g₃ = good-header 2 a₂ g₂ (omega arith) (header-line-good i l₂) in
+      let g₄ = good-header 3 a₃ g₃ (omega arith) (header-line-good j l₃) in (
+        sym (ap (λ (x : Header). x .first) (same-header e₄)) ∙ start-next 3 a₄ (header-next k l₄),
+        good-header 4 a₄ g₄ (omega arith) (header-line-good k l₄),
+      )))))
 
   start-reports : (lengths : Lengths) → Reports s (startRefusal s lengths)
   unfolding startRefusal
@@ -198,10 +272,10 @@ module _ (s : List ℕ) where
       let f = first-of at (commandOf (lineAt s at) .command) e (command-found s at) in
       record { first = f; place = fault-at CommandLine command-ends s at h f }
 
-  line-reports : (terms : Terms) (line at : ℕ) (held : List Stash) → at ≤ length s → at ≡ lineStart s line →
-      Reports s (lineRefusal s terms line at held)
+  line-reports : (terms : Terms) (line at : ℕ) (held : List Stash) → firstLine ≤ line → at < length s → at ≡ lineStart s line →
+      GoodBefore s line → Reports s (lineRefusal s terms line at held)
   unfolding refusalOf
-  line-reports terms line at held w e =
+  line-reports terms line at held n w e before =
       let l = lineAt s at in
       let hash = commandOf l .hash in
       let c = commandOf l .command in
@@ -210,7 +284,7 @@ module _ (s : List ℕ) where
       let number : refusalFor l terms held hash c ≡ lineForm = form-is l terms held hash (b .1) in
       record {
         header = λ h. absurd (omega (arith, number, h));
-        line = λ h. rw (sym e) (line-fault at w (b .1));
+        line = λ h. (n, rw (sym e) w, record { before = before; fault = rw (sym e) (line-fault at (omega (arith, w)) (b .1)) });
         other = λ h. apart h number refl;
       })
       (λ n. record { header = λ h. apart (n .number) h refl; line = λ h. apart (n .number) h refl; other = λ h. sym (byte-none at c refl (n .none)) })
@@ -222,15 +296,17 @@ module _ (s : List ℕ) where
       picks (Reports s) (no (eqb counted (h .total))) (refusing totalDiffers 2) noRefusal (λ t. plain-reports s totalDiffers 2 refl)
       (λ t. plain-reports s none 0 refl)
 
-  lines-report : (n : ℕ) (terms : Terms) (h : Header) (line at : ℕ) (held : List Stash) (counted : ℕ) → 0 < line → at ≡ lineStart s line →
-      Reports s (linesRefusal n s terms h line at held counted)
+  lines-report : (n : ℕ) (terms : Terms) (h : Header) (line at : ℕ) (held : List Stash) (counted : ℕ) → firstLine ≤ line →
+      at ≡ lineStart s line → GoodBefore s line → Reports s (linesRefusal n s terms h line at held counted)
   unfolding linesRefusal
-  lines-report zero terms h line at held counted w e = total-reports h counted
-  lines-report (suc n) terms h line at held counted w e =
+  lines-report zero terms h line at held counted w e before = total-reports h counted
+  lines-report (suc n) terms h line at held counted w e before =
       picks (Reports s) (leb (length s) at) (totalRefusal h counted) _ (λ t. total-reports h counted)
       (λ t. picks (Reports s) (eqb (refusalOf (lineAt s at) terms held) none) _ (lineRefusal s terms line at held)
-      (λ u. lines-report n terms h (line + 1) (at + length (lineAt s at)) _ _ (omega arith) (line-next line w e))
-      (λ u. line-reports terms line at held (omega (arith, leb-false (length s) at t)) e))
+      (λ u. let z : line + 1 ≡ suc line = omega arith in
+      lines-report n terms h (line + 1) (at + length (lineAt s at)) _ _ (omega arith) (line-next line (omega arith) e)
+      (rw z (good-command line e before w (command-line-good at terms held (eqb-true (refusalOf (lineAt s at) terms held) none u)))))
+      (λ u. line-reports terms line at held w (omega (arith, leb-false (length s) at t)) e before))
 
   -- ---- an opening
 
@@ -241,7 +317,7 @@ module _ (s : List ℕ) where
       (λ t. go (headerOf s) refl) (λ t. start-reports lengths)
     where
       go : (read : HeaderRead) → headerOf s ≡ read → Reports s (commandsRefusal s lengths read)
-      go (header.Good h) e = lines-report (suc (length s)) (termsOf lengths h) h firstLine (h .first) [] 0 (omega arith) (first-start e)
+      go (header.Good h) e = let f = first-start e in lines-report (suc (length s)) (termsOf lengths h) h firstLine (h .first) [] 0 (omega arith) (f .0) (f .1)
       go (header.Bad line byte) e = plain-reports s none 0 refl
 
   -- the refusal that an opening's state holds: 3 and 6 name a line that is not good, and report the first byte at which no good line could go

@@ -5,13 +5,14 @@ use mathlib.Core.Path.{_≡_}
 use mathlib.Core.Bool.{false}
 use mathlib.Core.List.{List}
 use mathlib.Core.Logic.{_⊎_}
-use Prim.Native.Nat.{ℕ, zero, suc, _+_, _-_, _<_}
+use Prim.Native.Nat.{ℕ, zero, suc, _+_, _-_, _≤_, _<_}
 use lib.ListN.{length}
 use Rattle.text.specs.Line.{lineAt}
 use Rattle.state.specs.Refusals.{headerForm, lineForm, hasByte}
 use Rattle.state.specs.declared.Refusal.{Refusal}
 use Rattle.faults.specs.Language.{Language, FirstFault}
 use Rattle.faults.specs.Lines.{HeaderLine, CommandLine}
+use Rattle.transfer_list.specs.Header.{firstLine}
 
 -- where the line starts that comes after n lines of the text
 unfoldable pub startAfter : ℕ → List ℕ → ℕ
@@ -27,12 +28,18 @@ pub record FaultAt (L : Language) (s : List ℕ) (at p : ℕ) : Type 0 where
   pub first : FirstFault L at (lineAt s at) p
   pub place : (p < at + length (lineAt s at)) ⊎ (p ≡ length s)
 
--- the byte that a refusal reports is the first fault of the line that it names
-abbrev pub Pinpoints : Language → List ℕ → Refusal → Type 0
-Pinpoints L s r = FaultAt L s (lineStart s (r .line)) (r .byte)
+-- every line before this one is good: those of the header, and the command lines after it
+pub record GoodBefore (s : List ℕ) (line : ℕ) : Type 0 where
+  pub header : (k : ℕ) → 0 < k → k < firstLine → k < line → HeaderLine (lineAt s (lineStart s k))
+  pub commands : (k : ℕ) → firstLine ≤ k → k < line → CommandLine (lineAt s (lineStart s k))
 
--- what a refusal reports of a text
+-- a refusal names the first line that is not good, and the byte that it reports is that line's first fault
+pub record Pinpoints (L : Language) (s : List ℕ) (r : Refusal) : Type 0 where
+  pub before : GoodBefore s (r .line)
+  pub fault : FaultAt L s (lineStart s (r .line)) (r .byte)
+
+-- what a refusal reports of a text: 3 is a line of the header, absent ones too, and 6 a command line that is there
 pub record Reports (s : List ℕ) (r : Refusal) : Type 0 where
-  pub header : r .number ≡ headerForm → Pinpoints HeaderLine s r
-  pub line : r .number ≡ lineForm → Pinpoints CommandLine s r
+  pub header : r .number ≡ headerForm → (0 < r .line) × (r .line < firstLine) × Pinpoints HeaderLine s r
+  pub line : r .number ≡ lineForm → (firstLine ≤ r .line) × (lineStart s (r .line) < length s) × Pinpoints CommandLine s r
   pub other : hasByte (r .number) ≡ false → r .byte ≡ 0

@@ -1,12 +1,16 @@
 //! How often each thing occurred in a series of cases.
 
+mod form;
 mod limits;
+mod lines;
 mod patch;
 mod sparse;
 
 use crate::generate::line_starts;
 use crate::hex;
+use form::{Forms, BYTES};
 use limits::LIMITS;
+pub use lines::LineCoverage;
 use patch::{Line, FAULTS, PATCHES};
 use reference::{digest, plain, Answer, Areas, Lengths, Outcome, Rooms, State, BLOCK, MOST_STASHES};
 pub use sparse::SparseCoverage;
@@ -97,6 +101,10 @@ pub struct Coverage {
     pub kinds: [u64; KINDS.len()],
     /// Openings and calls with many stashes and long sources.
     pub limits: [u64; LIMITS.len()],
+    /// Openings with 3 or 6, by what stands at the first fault.
+    pub forms: Forms,
+    /// Calls by what they did with the byte of a refusal.
+    pub bytes: [u64; BYTES.len()],
 }
 
 impl Coverage {
@@ -116,6 +124,8 @@ impl Coverage {
         let _ = writeln!(out, "9 for: {}", counted(&NINES, &self.nines));
         let _ = writeln!(out, "16 of: {}", counted(&SIXTEENS, &self.sixteens));
         let _ = writeln!(out, "17 by cause: {}", counted(&CAUSES, &self.causes));
+        let _ = writeln!(out, "first faults of openings: {}", self.forms.report());
+        let _ = writeln!(out, "bytes of calls: {}", counted(&BYTES, &self.bytes));
         let _ = writeln!(out, "19 for: {}", counted(&FAULTS, &self.faults));
         let _ = writeln!(out, "lines that ran: {}", counted(&LINES, &self.lines));
         let _ = writeln!(out, "of these: {}", counted(&KINDS, &self.kinds));
@@ -143,6 +153,8 @@ impl Coverage {
         LINES.iter().zip(self.lines).for_each(|(name, n)| note(name.to_string(), n));
         KINDS.iter().zip(self.kinds).for_each(|(name, n)| note(name.to_string(), n));
         LIMITS.iter().zip(self.limits).for_each(|(name, n)| note(name.to_string(), n));
+        self.forms.each().for_each(|(name, n)| note(name.to_string(), n));
+        BYTES.iter().zip(self.bytes).for_each(|(name, n)| note(name.to_string(), n));
         for (name, n) in [
             ("done", self.done),
             ("more", self.more),
@@ -162,6 +174,7 @@ impl Coverage {
     pub fn open(&mut self, list: &[u8], rooms: Rooms, state: &State) {
         self.opened[state.refusal.number.min(19)] += 1;
         add(&mut self.limits, &limits::opened(list, &Lengths::of(list, rooms), state));
+        self.forms.refused(list, &state.refusal);
         if state.refusal.number == 9 {
             let line = list.split_inclusive(|c| *c == b'\n').nth(state.refusal.line - 1).unwrap_or(b"");
             self.nines[nine(line, &Lengths::of(list, rooms))] += 1;
@@ -176,6 +189,7 @@ impl Coverage {
             Outcome::Refused(_) => self.refused += 1,
         }
         self.empty += piece.is_empty() as u64;
+        add(&mut self.bytes, &form::called(before, answer));
         if before.refusal.number != 0 {
             self.repeated += 1;
             return;

@@ -69,7 +69,7 @@ pub fn library_state(state: &State) -> muongrabi::State {
         line,
         at,
         into,
-        refusal: muongrabi::Refusal::new(refusal.number, refusal.line),
+        refusal: muongrabi::Refusal::new(refusal.number, refusal.line, refusal.byte),
         list,
         lengths: muongrabi::Lengths { image, stash, work, result, patch },
     })
@@ -88,7 +88,7 @@ fn state_of(state: &muongrabi::State) -> State {
 }
 
 fn refusal_of(refusal: muongrabi::Refusal) -> Refusal {
-    Refusal { number: refusal.number(), line: refusal.line() }
+    Refusal { number: refusal.number(), line: refusal.line(), byte: refusal.raw_byte() }
 }
 
 /// The library's outcome in the reference's type.

@@ -53,9 +53,15 @@ impl Record {
         Ok((0..length).map(move |k| format!("{key}.{k}")))
     }
 
-    /// A number and a line, in the places from `first` on of a row.
+    /// A number, a line and, with 3 and 6 and no other number, a byte: the places from `first` on of a row.
     pub fn refusal(&self, key: &str, first: usize) -> Read<Refusal> {
-        Ok(Refusal { number: self.number(&format!("{key}.{first}"))?, line: self.number(&format!("{key}.{}", first + 1))? })
+        let place = |k: usize| self.number::<usize>(&format!("{key}.{}", first + k));
+        let (number, line) = (place(0)?, place(1)?);
+        let with_byte = matches!(number, 3 | 6);
+        if self.number::<usize>(&format!("{key}.length"))? != first + 2 + with_byte as usize {
+            return Err(format!("{key} has too many places, or too few"));
+        }
+        Ok(Refusal { number, line, byte: if with_byte { place(2)? } else { 0 } })
     }
 
     pub fn outcome(&self, key: &str) -> Read<Outcome> {

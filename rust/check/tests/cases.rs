@@ -1,6 +1,6 @@
 //! A few thousand seeded cases with overflow checks on, and bytes and states of no shape at all.
 
-use check::compare::{Checker, Series, SparseChecker};
+use check::compare::{Checker, LineChecker, Series, SparseChecker};
 use check::generate::{disturb, Rng};
 use check::{Library, Model};
 use reference::{plain, Areas, Rooms, State, BLOCK, MOST_STASHES};
@@ -22,6 +22,11 @@ fn seeded_cases_on_the_library() {
 #[test]
 fn seeded_cases_on_the_model() {
     seeded_cases(&mut Checker::new(&Model));
+}
+
+#[test]
+fn seeded_ill_formed_lines() {
+    seeded_cases(&mut LineChecker::new(&[("library", &Library), ("model", &Model)]));
 }
 
 #[test]

@@ -141,12 +141,12 @@ fn each_refusal_of_a_run() {
         assert_eq!(said(&answer), (refused(18, 6), 0));
         assert_eq!(lent.letters(), ["ABCDEFG0", "xyz", "uvw", "rst"]);
         // It is held, as 19 is.
-        assert_eq!(answer.state.refusal, Refusal { number: 18, line: 6 });
+        assert_eq!(answer.state.refusal, refusal_of(18, 6));
         assert_eq!(said(&lent.call(on, b"", answer.state)), (refused(18, 6), 0));
         lent.list = line("A", "B", whole - 1).into_bytes();
         let state = State { lengths: Lengths::of(&lent.list, lent.rooms()), ..state };
         let answer = lent.call(on, b"", state);
-        assert_eq!((said(&answer), answer.state.refusal), ((refused(19, 6), 0), Refusal { number: 19, line: 6 }));
+        assert_eq!((said(&answer), answer.state.refusal), ((refused(19, 6), 0), refusal_of(19, 6)));
         lent.patch[0] = b'c';
         let again = lent.call(on, b"", answer.state);
         assert_eq!((said(&again), again.state), ((refused(19, 6), 0), answer.state));

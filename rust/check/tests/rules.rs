@@ -5,10 +5,16 @@ mod common;
 use check::hex;
 use common::*;
 use reference::Outcome::{Done, More};
-use reference::{Answer, Refusal, Rooms, State, BLOCK, MOST_AREA, MOST_IMAGE, MOST_RESULT};
+use reference::{Answer, Outcome, Refusal, Rooms, State, BLOCK, MOST_AREA, MOST_IMAGE, MOST_RESULT};
 
-/// What an opening is refused with, the same on all.
+/// What an opening is refused with, the same on all: the number and the line.
 fn refusal(list: &str) -> (usize, usize) {
+    let Refusal { number, line, .. } = whole_refusal(list);
+    (number, line)
+}
+
+/// The same, with the byte.
+fn whole_refusal(list: &str) -> Refusal {
     let mut got = Vec::new();
     for on in all() {
         let mut lent = Lent::new(list);
@@ -17,9 +23,9 @@ fn refusal(list: &str) -> (usize, usize) {
             assert_eq!(state, State { refusal: state.refusal, ..State::ZERO }, "{list}");
             // A run ends with that state, as the implementation itself gives it.
             let answer = lent.run(on, b"", &[]);
-            assert_eq!(answer, Answer { state, outcome: refused(state.refusal.number, state.refusal.line), taken: 0 }, "{list}");
+            assert_eq!(answer, Answer { state, outcome: Outcome::Refused(state.refusal), taken: 0 }, "{list}");
         }
-        got.push((state.refusal.number, state.refusal.line));
+        got.push(state.refusal);
     }
     got.dedup();
     assert_eq!(got.len(), 1, "{list}");
@@ -54,8 +60,8 @@ fn samples() {
     assert_eq!(after(&list, b"", b"").0[1], "GBC");
     assert_eq!(refusal("3\n7\n0\n0\nzero 6,247114,247116,247150,247155,247156,247156\n"), (8, 5));
     // 4: ill formed.
-    for set in ["2,5,3", "3,1,2,3", "0", "4,1,2", "2,01,2"] {
-        assert_eq!(refusal(&format!("3\n0\n0\n0\nzero {set}\n")), (6, 5), "{set}");
+    for (set, byte) in [("2,5,3", 18), ("3,1,2,3", 14), ("0", 13), ("4,1,2", 18), ("2,01,2", 16)] {
+        assert_eq!(whole_refusal(&format!("3\n0\n0\n0\nzero {set}\n")), Refusal { number: 6, line: 5, byte }, "{set}");
     }
     // 5 and 6.
     assert_eq!(after("3\n1\n0\n0\nzero 2,7,8\n", b"", b"").0[0], "ABCDEFG0");
@@ -183,7 +189,7 @@ fn the_header_of_a_real_list() {
         ("3\n0\n257\n32768\n", 32_768, (5, 3)),
     ] {
         for on in all() {
-            let Refusal { number, line } = on.open(list.as_bytes(), Rooms { stash: stash * BLOCK, ..Rooms::default() }).refusal;
+            let Refusal { number, line, .. } = on.open(list.as_bytes(), Rooms { stash: stash * BLOCK, ..Rooms::default() }).refusal;
             assert_eq!((number, line), want, "{list:?}, {stash} blocks");
         }
     }
@@ -198,7 +204,7 @@ fn the_header_of_a_real_list() {
         let list = format!("3\n6998\n108\n10584\n{lines}");
         let rooms = Rooms { image: 1_048_576 * BLOCK, stash: 10_584 * BLOCK, work: work * BLOCK, result: 4_096 * BLOCK, patch: 3_169_086 };
         for on in all() {
-            let Refusal { number, line } = on.open(list.as_bytes(), rooms).refusal;
+            let Refusal { number, line, .. } = on.open(list.as_bytes(), rooms).refusal;
             assert_eq!((number, line), want, "{lines}");
         }
     }
@@ -236,7 +242,7 @@ fn sizes_up_to_the_largest_area() {
     ] {
         let list = format!("3\n{total}\n2\n{area}\n{lines}");
         for on in all() {
-            let Refusal { number, line } = on.open(list.as_bytes(), rooms).refusal;
+            let Refusal { number, line, .. } = on.open(list.as_bytes(), rooms).refusal;
             assert_eq!((number, line), want, "{lines}");
         }
     }
@@ -246,7 +252,7 @@ fn sizes_up_to_the_largest_area() {
          move {h} 2,0,25000 25000 - {h}:2,0,5000 {other}:2,5000,25000\nmove {h} 2,0,20000 20000 - {other}:4,4097,20000,0,4097\n"
     );
     for on in all() {
-        assert_eq!(on.open(format!("3\n70000\n2\n25000\n{lines}").as_bytes(), rooms).refusal, Refusal { number: 0, line: 0 });
+        assert_eq!(on.open(format!("3\n70000\n2\n25000\n{lines}").as_bytes(), rooms).refusal, refusal_of(0, 0));
     }
 }
 
@@ -342,16 +348,16 @@ fn area_lengths() {
             // The patch data may have any length.
             for patch in [0, 1, BLOCK, 1 << 33, usize::MAX] {
                 let state = on.open(list, Rooms { image, stash, work, result, patch });
-                assert_eq!(state.refusal, Refusal { number: want, line: 0 });
+                assert_eq!(state.refusal, refusal_of(want, 0));
                 assert_eq!((state.lengths.result, state.lengths.patch), if want == 0 { (result, patch) } else { (0, 0) });
             }
         }
         let mut long = vec![b'x'; 4_194_305];
         let nothing = Rooms::default();
-        assert_eq!(on.open(&long, nothing).refusal, Refusal { number: 2, line: 0 });
-        assert_eq!(on.open(&long, Rooms { image: 1, ..nothing }).refusal, Refusal { number: 1, line: 0 });
-        assert_eq!(on.open(&long, Rooms { result: 1, ..nothing }).refusal, Refusal { number: 1, line: 0 });
+        assert_eq!(on.open(&long, nothing).refusal, refusal_of(2, 0));
+        assert_eq!(on.open(&long, Rooms { image: 1, ..nothing }).refusal, refusal_of(1, 0));
+        assert_eq!(on.open(&long, Rooms { result: 1, ..nothing }).refusal, refusal_of(1, 0));
         long.pop();
-        assert_eq!(on.open(&long, nothing).refusal, Refusal { number: 3, line: 1 });
+        assert_eq!(on.open(&long, nothing).refusal, Refusal { number: 3, line: 1, byte: 0 });
     }
 }

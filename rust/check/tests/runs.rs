@@ -5,7 +5,7 @@ mod common;
 use check::hex;
 use common::*;
 use reference::Outcome::{Done, More};
-use reference::{digest, Lengths, Refusal, Rooms, State, BLOCK, MOST_AREA, MOST_STASHES};
+use reference::{digest, Lengths, Outcome, Refusal, Rooms, State, BLOCK, MOST_AREA, MOST_STASHES};
 
 #[test]
 fn pieces_of_any_length() {
@@ -38,17 +38,19 @@ fn a_hash_that_differs() {
     let (areas, answer) = after(&list, b"", &blocks("n"));
     assert_eq!(areas, ["nBCDEFGH", "xyz", "Cvw", "rst"]);
     assert_eq!(said(&answer), (refused(16, 6), 4_096));
-    assert_eq!((answer.state.line, answer.state.count, answer.state.refusal), (6, 0, Refusal { number: 16, line: 6 }));
+    assert_eq!((answer.state.line, answer.state.count, answer.state.refusal), (6, 0, refusal_of(16, 6)));
     for on in all() {
         let mut lent = Lent::new(&list);
         let mut state = answer.state;
         assert_eq!(said(&lent.call(on, b"x", state)), (refused(16, 6), 0));
         // Whatever it holds is repeated, before anything is looked at.
-        for (number, line) in [(17, 3), (99, usize::MAX), (usize::MAX, 0)] {
-            state.refusal = Refusal { number, line };
+        for (number, line, byte) in
+            [(17, 3, 0), (99, usize::MAX, 8), (usize::MAX, 0, usize::MAX), (6, 5, 0), (6, 5, 9), (3, 9, usize::MAX), (16, 6, 1), (8, 0, 1)]
+        {
+            state.refusal = Refusal { number, line, byte };
             state.at = usize::MAX;
             let again = lent.call(on, b"x", state);
-            assert_eq!((said(&again), again.state), ((refused(number, line), 0), state));
+            assert_eq!((said(&again), again.state), ((Outcome::Refused(state.refusal), 0), state));
         }
     }
 }
@@ -146,21 +148,50 @@ fn impossible_states() {
     assert_eq!(edit(&|s| s.lengths.patch = 1), 17);
     assert_eq!(edit(&|s| s.lengths.patch = usize::MAX), 17);
     assert_eq!(edit(&|s| *s = State::ZERO), 17);
+    // With number 0 no refusal is held.
     assert_eq!(edit(&|s| s.refusal.line = 9), 0);
+    assert_eq!(edit(&|s| s.refusal.byte = 9), 0);
 }
 
 #[test]
 fn a_list_altered_after_opening() {
     let good = "3\n2\n1\n1\nzero 2,0,1\nzero 2,1,2\n";
-    for (line, want) in [("zero 2,1,9", 8), ("zero 2,2,1", 6), ("imgdiff 1,", 7), ("bsdiff 1,2", 6), ("Zero 2,1,2", 6)] {
+    // The number that the line is refused with, and the byte, in a list whose line 6 begins at byte 19.
+    for (line, number, byte) in [
+        ("zero 2,1,9", 8, 0),
+        ("zero 2,2,1", 6, 29),
+        ("zero 2,2,0", 6, 28),
+        ("zero 2,1\n2", 6, 27),
+        ("imgdiff 1,", 7, 0),
+        ("imgdifg 1,", 6, 19),
+        ("bsdiff 1,2", 6, 27),
+        ("Zero 2,1,2", 6, 19),
+        ("zero 2,1,2x", 6, 29),
+    ] {
         for on in all() {
             let mut lent = Lent::new(good);
-            let state = lent.open(on);
+            let opened = lent.open(on);
             lent.list = good.replace("zero 2,1,2", line).into_bytes();
+            let state = State { lengths: Lengths::of(&lent.list, lent.rooms()), ..opened };
+            let refusal = Refusal { number, line: 6, byte };
             let answer = lent.call(on, b"", state);
-            assert_eq!(said(&answer), (refused(want, 6), 0));
+            assert_eq!(said(&answer), (Outcome::Refused(refusal), 0), "{line:?}");
             assert_eq!(letters(&lent.image), "0BCDEFGH");
-            assert_eq!((answer.state.at, answer.state.line, answer.state.refusal), (19, 6, Refusal { number: want, line: 6 }));
+            assert_eq!((answer.state.at, answer.state.line, answer.state.refusal), (19, 6, refusal));
+            // It stays, over the list that was opened too.
+            lent.list = good.as_bytes().to_vec();
+            let again = lent.call(on, b"", answer.state);
+            assert_eq!((said(&again), again.state), ((Outcome::Refused(refusal), 0), answer.state));
+        }
+    }
+    // Cut short, it is wrong where the text ends.
+    for length in 20..good.len() {
+        for on in all() {
+            let mut lent = Lent::new(good);
+            let opened = lent.open(on);
+            lent.list.truncate(length);
+            let state = State { lengths: Lengths::of(&lent.list, lent.rooms()), ..opened };
+            assert_eq!(said(&lent.call(on, b"", state)), (Outcome::Refused(Refusal { number: 6, line: 6, byte: length }), 0));
         }
     }
     // Into a `new` that is no longer one: 17, and not kept.
@@ -197,11 +228,11 @@ fn the_most_stashes() {
             result: Vec::new(),
             patch: Vec::new(),
         };
-        assert_eq!(lent.open(on).refusal, Refusal { number: 14, line: most + 5 });
+        assert_eq!(lent.open(on).refusal, refusal_of(14, most + 5));
         // Line 4 has room for a stash of no blocks, and line 3 has none for it.
         let nothing = hex(&digest(b""));
         lent.list = format!("{list}stash {nothing} 2,0,0\n").into_bytes();
-        assert_eq!(lent.open(on).refusal, Refusal { number: 14, line: most + 5 });
+        assert_eq!(lent.open(on).refusal, refusal_of(14, most + 5));
         // In a call the lines before run, and what they held stays.
         let state = State { line: 5, at: header.len(), lengths: Lengths::of(&lent.list, lent.rooms()), ..State::ZERO };
         let answer = lent.call(on, b"", state);
@@ -210,7 +241,7 @@ fn the_most_stashes() {
         // Held already comes before no room, at either end of the table.
         for k in [0, 63, 64, most - 1] {
             lent.list = format!("{list}stash {} 2,0,1\n", named[k]).into_bytes();
-            assert_eq!(lent.open(on).refusal, Refusal { number: 13, line: most + 5 });
+            assert_eq!(lent.open(on).refusal, refusal_of(13, most + 5));
         }
         let swap = format!("{list}free {}\n{last}move {} 2,0,1 1 - {}:2,0,1\n", named[0], named[most - 1], named[most - 1]);
         lent.list = swap.into_bytes();

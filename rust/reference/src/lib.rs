@@ -1,4 +1,4 @@
-//! The rules of document 01, with of document 02, written twice, apart from the proved code: [`plain`] in plain loops,
+//! The rules of document 01, with of document 02, written twice, apart from the proved code: [`plain`] in plain loops,
 //! [`model`] slowly and by other means. The limits, the types and SHA-1 are all that the two share.
 
 #![forbid(unsafe_code)]
@@ -25,11 +25,12 @@ pub const MOST_STASHES: usize = 256;
 /// A SHA-1 digest.
 pub type Hash = [u8; 20];
 
-/// A refusal's number and line; in a state, number 0 is none.
+/// A refusal's number and line, and for 3 and 6 the byte of the text at which no good line could go on, else 0. In a state, number 0 is none.
 #[derive(Clone, Copy, PartialEq, Eq, Debug)]
 pub struct Refusal {
     pub number: usize,
     pub line: usize,
+    pub byte: usize,
 }
 
 /// The lengths of what is lent beside the list, in bytes.
@@ -104,7 +105,7 @@ impl State {
         line: 0,
         at: 0,
         into: 0,
-        refusal: Refusal { number: 0, line: 0 },
+        refusal: Refusal { number: 0, line: 0, byte: 0 },
         lengths: Lengths { list: 0, image: 0, stash: 0, work: 0, result: 0, patch: 0 },
     };
 }

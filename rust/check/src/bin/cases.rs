@@ -51,6 +51,12 @@ fn same<T: PartialEq + Debug>(what: &str, got: T, expected: T) -> Read<()> {
     Err(format!("{what} is {got:?}, not {expected:?}"))
 }
 
+/// The refusal first: in words a whole state has thousands of numbers.
+fn same_state(what: &str, got: State, expected: State) -> Read<()> {
+    same(&format!("{what}: the refusal"), got.refusal, expected.refusal)?;
+    same(what, got, expected)
+}
+
 /// What a state holds past its stashes is left free.
 fn named(mut state: State) -> State {
     state.sizes.iter_mut().skip(state.count).for_each(|size| *size = 0);
@@ -64,9 +70,9 @@ fn opening(case: &Record, on: &dyn Implementation) -> Read<()> {
     let (image, stash, work) = (of("image_len")?, of("stash_len")?, of("work_len")?);
     let state = on.open(&list, Rooms { image, stash, work, result: of("result_len")?, patch: of("patch_len")? });
     if case.text("expect") == Ok("ok") {
-        return same("the refusal", state.refusal, Refusal { number: 0, line: 0 });
+        return same("the refusal", state.refusal, Refusal { number: 0, line: 0, byte: 0 });
     }
-    same("a refused opening's state", state, State { refusal: case.refusal("expect", 0)?, ..State::ZERO })
+    same_state("a refused opening's state", state, State { refusal: case.refusal("expect", 0)?, ..State::ZERO })
 }
 
 /// What a case lends beside the list.
@@ -102,7 +108,7 @@ fn one_call(case: &Record, on: &dyn Implementation) -> Read<()> {
     let answer = on.call(&list, lent.areas(), &piece, case.state("state")?);
     same("the outcome", answer.outcome, case.outcome("outcome")?)?;
     same("what is taken", answer.taken, case.number("taken")?)?;
-    same("the state after it", named(answer.state), case.state("state_after")?)?;
+    same_state("the state after it", named(answer.state), case.state("state_after")?)?;
     for (name, area) in lent.written() {
         same_bytes(name, area, &case.bytes(&format!("{name}_after"))?)?;
     }
@@ -113,7 +119,7 @@ fn sequence(case: &Record, on: &dyn Implementation) -> Read<()> {
     let (list, new) = (case.bytes("list")?, case.bytes("new")?);
     let mut lent = Lent::of(case)?;
     let mut state = on.open(&list, lent.areas().rooms());
-    same("the opening's state", state, case.state("state")?)?;
+    same_state("the opening's state", state, case.state("state")?)?;
     let mut rest = &new[..];
     let mut cuts = case.row("cuts")?;
     for step in case.row("steps")? {
@@ -125,7 +131,7 @@ fn sequence(case: &Record, on: &dyn Implementation) -> Read<()> {
         state = answer.state;
         same(&of("outcome"), answer.outcome, case.outcome(&of("outcome"))?)?;
         same(&of("taken"), answer.taken, case.number(&of("taken"))?)?;
-        same(&of("state"), named(state), case.state(&of("state"))?)?;
+        same_state(&of("state"), named(state), case.state(&of("state"))?)?;
         for (name, area) in lent.written() {
             same(&of(name), hex(&on.digest(area)).as_str(), case.text(&of(name))?)?;
         }

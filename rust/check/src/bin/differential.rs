@@ -1,10 +1,10 @@
 //! Compares the proved library with the plain implementation on seeded cases.
-//! usage: differential [--sparse] [--cases N] [--seed S] [--first K] [--self] [--out FOLDER]
-//! Lists are run; with --sparse, sparse files are loaded, by the slow model too. --self takes the slow model in the library's place. A failing case
-//! is written whole to FOLDER (default: here). In a run of 5,000 cases or more it is a failure too when something of the coverage never
-//! occurred.
+//! usage: differential [--sparse | --lines] [--cases N] [--seed S] [--first K] [--self] [--out FOLDER]
+//! Lists are run; with --sparse, sparse files are loaded, by the slow model too; with --lines, ill-formed lines are opened, by the slow model too,
+//! and number, line and byte compared. --self takes the slow model in the library's place. A failing case is written whole to FOLDER
+//! (default: here). In a run of 5,000 cases or more it is a failure too when something of the coverage never occurred.
 
-use check::compare::{Checker, Series, SparseChecker};
+use check::compare::{Checker, LineChecker, Series, SparseChecker};
 use check::{Implementation, Library, Model};
 use std::time::{Instant, SystemTime, UNIX_EPOCH};
 
@@ -16,7 +16,7 @@ fn main() {
     let mut first = 0u64;
     let mut seed = SystemTime::now().duration_since(UNIX_EPOCH).map_or(1, |d| d.as_nanos() as u64);
     let mut itself = false;
-    let mut sparse = false;
+    let (mut sparse, mut lines) = (false, false);
     let mut out = ".".to_string();
     let mut words = std::env::args().skip(1);
     while let Some(word) = words.next() {
@@ -28,13 +28,19 @@ fn main() {
             "--out" => out = value(),
             "--self" => itself = true,
             "--sparse" => sparse = true,
+            "--lines" => lines = true,
             _ => usage(),
         }
     }
     let other: &dyn Implementation = if itself { &Model } else { &Library };
     println!("seed {seed}");
     let others: &[(&str, &dyn Implementation)] = if itself { &[("model", &Model)] } else { &[("library", &Library), ("model", &Model)] };
-    let checker: &mut dyn Series = if sparse { &mut SparseChecker::new(others) } else { &mut Checker::new(other) };
+    let checker: &mut dyn Series = match (sparse, lines) {
+        (false, false) => &mut Checker::new(other),
+        (true, false) => &mut SparseChecker::new(others),
+        (false, true) => &mut LineChecker::new(others),
+        (true, true) => usage(),
+    };
     let mut failed = 0u64;
     let start = Instant::now();
     for index in first..first + cases {
@@ -61,6 +67,6 @@ fn main() {
 }
 
 fn usage() -> ! {
-    eprintln!("usage: differential [--sparse] [--cases N] [--seed S] [--first K] [--self] [--out FOLDER]");
+    eprintln!("usage: differential [--sparse | --lines] [--cases N] [--seed S] [--first K] [--self] [--out FOLDER]");
     std::process::exit(2)
 }

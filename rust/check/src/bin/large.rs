@@ -1,13 +1,14 @@
 //! Real sizes: an image of 65,536 blocks, thousands of commands, stashes of thousands of blocks and a list of several MiB,
 //! the library compared with the plain implementation after every call; then positions at the far end of the largest image and of patch data
-//! past 32 bits, as many stashes and blocks of a source as there may be, patches of the largest areas, and sparse files over large images.
+//! past 32 bits, as many stashes and blocks of a source as there may be, a line as long as a list may be with a fault anywhere in it, patches of
+//! the largest areas, and sparse files over large images.
 //! usage: large [--seed S] [--commands N] [--self]   (--self takes the slow model in the library's place)
 
 use check::generate::patch::{patch_of, Record};
 use check::generate::sparse::{Chunk, SparseFile, DONT_CARE, FILL, RAW};
 use check::generate::{Blocks, Rng, Sizes, World};
 use check::{hex, Implementation, Library, Model, Plain};
-use reference::{digest, Answer, Areas, Outcome, Rooms, State, BLOCK, MOST_AREA, MOST_IMAGE, MOST_RESULT, MOST_STASHES};
+use reference::{digest, Answer, Areas, Outcome, Refusal, Rooms, State, BLOCK, MOST_AREA, MOST_IMAGE, MOST_LIST, MOST_RESULT, MOST_STASHES};
 use std::time::{Duration, Instant};
 
 fn main() {
@@ -31,6 +32,7 @@ fn main() {
         most_stashes(other),
         largest_stash(other),
         far_end(other, !itself),
+        longest_line(other, !itself),
         largest_patch(other),
         patch_far_end(other, !itself),
         sparse(other, seed),
@@ -159,6 +161,43 @@ fn far_end(other: &dyn Implementation, fast: bool) -> Result<(), String> {
         }
     }
     println!("the far end of 1,048,576 blocks is reached");
+    Ok(())
+}
+
+/// One line that fills the longest list, or with the slow model a shorter one: good, and with a fault far behind its start.
+fn longest_line(other: &dyn Implementation, fast: bool) -> Result<(), String> {
+    let length = if fast { MOST_LIST } else { 400_000 };
+    // Behind header, word and count, before the LF: pairs of four bytes, the first with a longer end for what they leave.
+    let pairs = (length - 15 - (length / 2).to_string().len()) / 4;
+    let line = |count: usize, more: usize| format!("3\n0\n0\n0\nerase {count},1,1{}{}", "0".repeat(more), ",1,1".repeat(pairs - 1));
+    let list = |count: usize| format!("{}\n", line(count, length - 1 - line(2 * pairs, 0).len())).into_bytes();
+    let good = list(2 * pairs);
+    let changed = |at: usize, byte: u8| {
+        let mut list = good.clone();
+        list[at] = byte;
+        list
+    };
+    let rooms = Rooms { image: MOST_IMAGE * BLOCK, ..Rooms::default() };
+    for (name, list, byte) in [
+        ("all good", good.clone(), None),
+        ("without its LF", good[..length - 1].to_vec(), Some(length - 1)),
+        ("with a byte more", changed(length - 1, b'0'), Some(length)),
+        ("with a last end that is too low", changed(length - 2, b'0'), Some(length - 2)),
+        ("with two numbers too few", list(2 * pairs + 2), Some(length - 1)),
+        ("with two numbers too many", list(2 * pairs - 2), Some(length - 5)),
+        ("with another byte in its midst", changed(length / 2, b'\r'), Some(length / 2)),
+        ("with another byte near its end", changed(length - 4, b'\xff'), Some(length - 4)),
+    ] {
+        let want = byte.map_or(Refusal { number: 0, line: 0, byte: 0 }, |byte| Refusal { number: 6, line: 5, byte });
+        for on in [&Plain, other] {
+            let start = Instant::now();
+            let refusal = on.open(&list, rooms).refusal;
+            if refusal != want || start.elapsed() > Duration::from_secs(10) {
+                return Err(format!("a line of {length} bytes {name}: {refusal:?}, not {want:?}, after {:?}", start.elapsed()));
+            }
+        }
+    }
+    println!("a list of {length} bytes that is one line, and its first fault");
     Ok(())
 }
 

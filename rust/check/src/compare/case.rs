@@ -37,6 +37,9 @@ impl Checker<'_> {
         if rng.one_in(30) {
             self.odd_lengths(&mut rng, &lent)?;
         }
+        if rng.one_in(4) {
+            self.ill_lines(&mut rng, &world, rooms)?;
+        }
         let mut state = self.open(&lent.list, rooms)?;
         let accepted = state.refusal.number == 0;
         if !accepted {

@@ -1,6 +1,7 @@
 //! Runs one seeded case on the plain implementation and on another, and compares everything after every call.
 
 mod case;
+mod lines;
 mod odd;
 mod sparse;
 
@@ -8,9 +9,13 @@ use crate::coverage::Coverage;
 use crate::generate::{Blocks, Pieces};
 use crate::guard::Guarded;
 use crate::{hex, Implementation, Plain};
+pub use lines::LineChecker;
 use reference::{Answer, Areas, Rooms, State, BLOCK};
 pub use sparse::SparseChecker;
 use std::fmt::Write;
+
+/// Implementations by name.
+type Named<'a> = (&'a str, &'a dyn Implementation);
 
 /// Seeded cases, each by its number, and what occurred in them.
 pub trait Series {
@@ -77,7 +82,7 @@ fn state_text(state: &State) -> String {
         state.line,
         state.at,
         state.into,
-        (state.refusal.number, state.refusal.line),
+        (state.refusal.number, state.refusal.line, state.refusal.byte),
         state.lengths,
         state.sizes,
         hex(&state.hashes)

@@ -1,7 +1,7 @@
-//! Digests, lengths that no memory here has, and the longest lists.
+//! Digests, lengths that no memory here has, ill-formed lines, and the longest lists.
 
 use super::{Checker, Lent};
-use crate::generate::{Rng, Sizes, World};
+use crate::generate::{other_line, Rng, Sizes, World};
 use crate::hex;
 use reference::{digest, Rooms, BLOCK, MOST_AREA, MOST_IMAGE, MOST_LIST, MOST_RESULT};
 
@@ -71,6 +71,17 @@ impl Checker<'_> {
             long.resize(MOST_LIST + rng.below(3), b'\n');
             let odd = rng.below(5) / 4;
             self.open(&long, Rooms { image: lent.image.len() + odd, ..lent.rooms() })?;
+        }
+        Ok(())
+    }
+
+    /// Openings of a good list with an ill-formed line each.
+    pub(super) fn ill_lines(&mut self, rng: &mut Rng, world: &World, rooms: Rooms) -> Result<(), String> {
+        let good = world.list();
+        for _ in 0..12 {
+            let mut list = good.clone();
+            other_line(rng, &mut list);
+            self.open(&list, rooms)?;
         }
         Ok(())
     }

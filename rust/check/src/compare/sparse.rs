@@ -1,6 +1,6 @@
 //! One seeded sparse file: loaded by the plain implementation and by others, and compared.
 
-use super::{first_difference, Series};
+use super::{first_difference, Named, Series};
 use crate::coverage::SparseCoverage;
 use crate::generate::sparse::{damage_sparse, SparseFile};
 use crate::generate::{Blocks, Rng};
@@ -8,9 +8,6 @@ use crate::guard::Guarded;
 use crate::{hex, Implementation, Plain};
 use reference::BLOCK;
 use std::fmt::Write;
-
-/// Implementations by name.
-type Named<'a> = (&'a str, &'a dyn Implementation);
 
 /// The other implementations, with their own copy of everything lent, between guards.
 pub struct SparseChecker<'a> {

@@ -1,5 +1,6 @@
 //! Texts spoiled byte by byte.
 
+use super::ill::{ill_header, ill_line};
 use super::lines::{line_around, line_starts};
 use super::Rng;
 use reference::{MOST_AREA, MOST_STASHES};
@@ -11,7 +12,7 @@ pub fn damage(rng: &mut Rng, list: &mut Vec<u8>) {
     for _ in 0..rng.pick(&[1, 1, 1, 2, 3]) {
         let some = !list.is_empty();
         let at = rng.below(list.len());
-        match rng.below(19) {
+        match rng.below(26) {
             0..=2 if some => list[at] = rng.pick(LIKELY),
             3 if some => list[at] = rng.next_u64() as u8,
             4 | 5 => list.insert(at, rng.pick(LIKELY)),
@@ -28,6 +29,7 @@ pub fn damage(rng: &mut Rng, list: &mut Vec<u8>) {
             15 => cut_off(rng, list, at),
             16 => other_space(rng, list),
             17 | 18 => header_byte(rng, list),
+            19..=25 => other_line(rng, list),
             _ => again_or_gone(rng, list, at),
         }
     }
@@ -149,6 +151,31 @@ fn header_byte(rng: &mut Rng, list: &mut Vec<u8>) {
         }
         _ => list.insert(k, rng.pick(b"0011239 \r\r\n\n+,a\t-")),
     }
+}
+
+/// An ill-formed line in the place of one behind the header, or between two; mostly the text ends with it where it has no LF. Now and then it is
+/// the header that is ill formed.
+pub fn other_line(rng: &mut Rng, list: &mut Vec<u8>) {
+    if rng.one_in(8) {
+        return header_in_place(rng, list);
+    }
+    let starts = line_starts(list);
+    let last = starts.len() - 1;
+    let start = starts[rng.between(4.min(last), last)];
+    let end = if rng.percent(50) { line_around(list, start).1 } else { start };
+    let line = ill_line(rng);
+    let cut = !line.ends_with(b"\n") && rng.percent(80);
+    let after = start + line.len();
+    list.splice(start..end, line);
+    if cut {
+        list.truncate(after);
+    }
+}
+
+/// An ill-formed header, or what there is of it.
+fn header_in_place(rng: &mut Rng, list: &mut Vec<u8>) {
+    let after = line_starts(list).get(4).copied().unwrap_or(list.len());
+    list.splice(0..after, ill_header(rng));
 }
 
 /// The line around this byte, somewhere once more or taken out.

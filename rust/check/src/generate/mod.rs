@@ -4,6 +4,7 @@ mod blocks;
 mod command;
 mod damage;
 mod good;
+mod ill;
 mod lines;
 pub mod patch;
 mod pieces;
@@ -15,7 +16,8 @@ mod states;
 mod world;
 
 pub use blocks::Blocks;
-pub use damage::{damage, other_header};
+pub use damage::{damage, other_header, other_line};
+pub use ill::ill_list;
 pub use lines::line_starts;
 pub use pieces::Pieces;
 pub use rng::Rng;

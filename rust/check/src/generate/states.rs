@@ -92,8 +92,10 @@ pub fn disturb(rng: &mut Rng, state: &mut State, list: &[u8]) {
             *length = value;
         }
         18 => {
-            let number = rng.pick(&[0, 1, 6, 15, 16, 17, 18, 19, 20, 99, usize::MAX]);
-            state.refusal = Refusal { number, line: rng.pick(&[0, 1, 5, 77, usize::MAX]) };
+            // Any number with any byte: what is held is repeated as it is.
+            let number = rng.pick(&[0, 1, 3, 6, 6, 15, 16, 17, 18, 19, 20, 99, usize::MAX]);
+            let byte = border(rng, list.len());
+            state.refusal = Refusal { number, line: rng.pick(&[0, 1, 5, 77, usize::MAX]), byte: rng.pick(&[0, 1, 8, byte]) };
         }
         19 | 23 => {
             // As many stashes as may be, of no blocks.
@@ -116,6 +118,8 @@ pub fn disturb(rng: &mut Rng, state: &mut State, list: &[u8]) {
             state.sizes[k] = rng.below(4);
         }
         21 => everything(rng, state),
+        // With a number or with none.
+        _ if rng.percent(50) => state.refusal.byte = rng.pick(&[1, 8, list.len(), usize::MAX]),
         _ => state.refusal.line = rng.pick(&[1, 5, usize::MAX]),
     }
 }
@@ -140,7 +144,8 @@ fn everything(rng: &mut Rng, state: &mut State) {
     state.at = border(rng, state.at);
     state.into = border(rng, state.into);
     if rng.percent(20) {
-        state.refusal = Refusal { number: rng.next_u64() as usize, line: rng.next_u64() as usize };
+        let [number, line, byte] = std::array::from_fn(|_| rng.next_u64() as usize);
+        state.refusal = Refusal { number, line, byte };
     }
 }
 

@@ -99,6 +99,13 @@ pub fn said(answer: &Answer) -> (Outcome, usize) {
     (answer.outcome, answer.taken)
 }
 
+/// The tests of openings have no use for it.
+#[allow(dead_code)]
 pub fn refused(number: usize, line: usize) -> Outcome {
-    Outcome::Refused(Refusal { number, line })
+    Outcome::Refused(refusal_of(number, line))
+}
+
+/// One without a byte: of a number that is neither 3 nor 6.
+pub fn refusal_of(number: usize, line: usize) -> Refusal {
+    Refusal { number, line, byte: 0 }
 }

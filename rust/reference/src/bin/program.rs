@@ -13,6 +13,14 @@ fn read(name: &str) -> Vec<u8> {
     fs::read(name).unwrap_or_default()
 }
 
+/// 3 and 6 with their byte.
+fn refused(refusal: Refusal) -> String {
+    match refusal {
+        Refusal { number: number @ (3 | 6), line, byte } => format!("refused {number} {line} {byte}"),
+        Refusal { number, line, .. } => format!("refused {number} {line}"),
+    }
+}
+
 fn main() {
     let list = read(LIST);
     let mut image = read(IMAGE);
@@ -33,7 +41,7 @@ fn main() {
     let mut areas = Areas { image: &mut image, stash: &mut stash, work: &mut work, result: &mut result, patch: &patch };
     let mut state = open(&list, areas.rooms());
     if state.refusal.number != 0 {
-        println!("refused {} {}", state.refusal.number, state.refusal.line);
+        println!("{}", refused(state.refusal));
         return;
     }
     let mut total = 0;
@@ -50,7 +58,7 @@ fn main() {
         match called.outcome {
             Outcome::Done => println!("done {total}"),
             Outcome::More => println!("more {total}"),
-            Outcome::Refused(Refusal { number, line }) => println!("refused {number} {line}"),
+            Outcome::Refused(refusal) => println!("{}", refused(refusal)),
         }
         return;
     }

@@ -1,6 +1,8 @@
 //! The rules a second time, slow and by other means: lines and fields are split apart, every number that applies to a line is
-//! collected before the lowest is taken, and new data goes byte by byte. It guards the plain loops against slips.
+//! collected before the lowest is taken, where a line is wrong is found by trying, and new data goes byte by byte. It guards the plain loops
+//! against slips.
 
+mod fault;
 mod patch;
 mod read;
 mod sparse;
@@ -75,10 +77,11 @@ fn faults(command: &Command, rules: &Rules, held: &[(Vec<u8>, u64)]) -> Vec<usiz
     found
 }
 
-fn judge(line: &[u8], rules: &Rules, held: &[(Vec<u8>, u64)]) -> Result<Command, usize> {
-    let command = decode(line)?;
+/// The command of the line that starts at this byte; or the number that it is refused with, and for 6 the byte.
+fn judge(line: &[u8], at: usize, rules: &Rules, held: &[(Vec<u8>, u64)]) -> Result<Command, (usize, usize)> {
+    let command = decode(line).map_err(|number| (number, if number == 6 { at + fault::of_command(line) } else { 0 }))?;
     match faults(&command, rules, held).into_iter().min() {
-        Some(number) => Err(number),
+        Some(number) => Err((number, 0)),
         None => Ok(command),
     }
 }
@@ -88,17 +91,19 @@ fn opening(list: &[u8], lengths: &Lengths) -> Result<usize, Refusal> {
     let rules = rules(list, lengths)?;
     let mut held: Vec<(Vec<u8>, u64)> = Vec::new();
     let mut counted: Vec<u64> = Vec::new();
+    let mut at = rules.after;
     for (k, line) in list[rules.after..].split_inclusive(|c| *c == b'\n').enumerate() {
-        match judge(line, &rules, &held).map_err(|number| Refusal { number, line: k + 5 })? {
+        match judge(line, at, &rules, &held).map_err(|(number, byte)| Refusal { number, line: k + 5, byte })? {
             Command::New(target) | Command::Zero(target) => counted.push(size(&target)),
             Command::Move { target, .. } | Command::Bsdiff { target, .. } => counted.push(size(&target)),
             Command::Erase(_) => {}
             Command::Stash { hash, source } => held.push((hash, size(&source))),
             Command::Free { hash } => held.retain(|stash| stash.0 != hash),
         }
+        at += line.len();
     }
     if counted.iter().sum::<u64>() != rules.total {
-        return Err(Refusal { number: 15, line: 2 });
+        return Err(Refusal { number: 15, line: 2, byte: 0 });
     }
     Ok(rules.after)
 }
@@ -176,8 +181,8 @@ impl Run<'_> {
     }
 
     /// The refusal is held.
-    fn refused(mut self, number: usize) -> Answer {
-        self.state.refusal = Refusal { number, line: self.state.line };
+    fn refused(mut self, number: usize, byte: usize) -> Answer {
+        self.state.refusal = Refusal { number, line: self.state.line, byte };
         let refusal = self.state.refusal;
         self.ends(Outcome::Refused(refusal))
     }
@@ -287,13 +292,13 @@ pub fn call(list: &[u8], areas: Areas, piece: &[u8], state: State) -> Answer {
         return run.ends(Outcome::Refused(state.refusal));
     }
     if impossible(list, &lengths, &state) {
-        return run.ends(Outcome::Refused(Refusal { number: 17, line: 0 }));
+        return run.ends(Outcome::Refused(Refusal { number: 17, line: 0, byte: 0 }));
     }
     let rules = rules(list, &lengths).expect("possible");
     for line in list[state.at..].split_inclusive(|c| *c == b'\n') {
         let held = stashes(&run.state);
-        let number = match judge(line, &rules, &held) {
-            Err(number) => Some(number),
+        let number = match judge(line, run.state.at, &rules, &held) {
+            Err((number, byte)) => return run.refused(number, byte),
             Ok(Command::Zero(target) | Command::Erase(target)) => {
                 run.zeros(&target);
                 None
@@ -320,7 +325,7 @@ pub fn call(list: &[u8], areas: Areas, piece: &[u8], state: State) -> Answer {
             }
         };
         if let Some(number) = number {
-            return run.refused(number);
+            return run.refused(number, 0);
         }
         run.state.at += line.len();
         run.state.line += 1;

@@ -1,5 +1,6 @@
 //! Lines and the header split into their fields.
 
+use super::fault;
 use crate::{Lengths, Refusal, BLOCK, MOST_AREA, MOST_IMAGE, MOST_LIST, MOST_RESULT, MOST_STASHES};
 
 pub(super) type Ranges = Vec<(u64, u64)>;
@@ -20,7 +21,7 @@ pub(super) enum Command {
     Free { hash: Vec<u8> },
 }
 
-fn number(field: &[u8]) -> Option<u64> {
+pub(super) fn number(field: &[u8]) -> Option<u64> {
     let text = std::str::from_utf8(field).ok()?;
     let value: u32 = text.parse().ok()?;
     (value.to_string() == text).then_some(value as u64)
@@ -112,9 +113,9 @@ fn header(list: &[u8]) -> Result<(Vec<u64>, usize), Refusal> {
     let mut length = 0;
     let mut lines = list.split_inclusive(|c| *c == b'\n');
     for line in 1..=4 {
-        let refusal = Refusal { number: 3, line };
-        let text = lines.next().ok_or(refusal)?;
-        numbers.push(text.strip_suffix(b"\n").and_then(number).ok_or(refusal)?);
+        let text = lines.next().unwrap_or(b"");
+        let value = text.strip_suffix(b"\n").and_then(number);
+        numbers.push(value.ok_or_else(|| Refusal { number: 3, line, byte: length + fault::of_header(text) })?);
         length += text.len();
     }
     Ok((numbers, length))
@@ -136,21 +137,21 @@ pub(super) fn rules(list: &[u8], lengths: &Lengths) -> Result<Rules, Refusal> {
     let block = BLOCK as u64;
     for (bytes, most) in [(lengths.image, MOST_IMAGE), (lengths.stash, MOST_AREA), (lengths.work, MOST_AREA), (lengths.result, MOST_RESULT)] {
         if bytes as u64 % block != 0 || bytes as u64 > most as u64 * block {
-            return Err(Refusal { number: 1, line: 0 });
+            return Err(Refusal { number: 1, line: 0, byte: 0 });
         }
     }
     if list.len() > MOST_LIST {
-        return Err(Refusal { number: 2, line: 0 });
+        return Err(Refusal { number: 2, line: 0, byte: 0 });
     }
     let (numbers, after) = header(list)?;
     if numbers[0] != 3 {
-        return Err(Refusal { number: 4, line: 1 });
+        return Err(Refusal { number: 4, line: 1, byte: 0 });
     }
     if numbers[2] > MOST_STASHES as u64 {
-        return Err(Refusal { number: 5, line: 3 });
+        return Err(Refusal { number: 5, line: 3, byte: 0 });
     }
     if numbers[3] * block > lengths.stash as u64 {
-        return Err(Refusal { number: 5, line: 4 });
+        return Err(Refusal { number: 5, line: 4, byte: 0 });
     }
     let [image, work, result] = [lengths.image, lengths.work, lengths.result].map(|bytes| bytes as u64 / block);
     Ok(Rules { total: numbers[1], stashes: numbers[2], held: numbers[3], image, work, result, patch: lengths.patch as u64, after })

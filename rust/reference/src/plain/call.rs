@@ -20,7 +20,7 @@ pub fn call(list: &[u8], mut areas: Areas, piece: &[u8], state: &mut State) -> C
     }
     match possible(list, &Lengths::of(list, areas.rooms()), state) {
         Some(header) => run_lines(list, &header, &mut areas, piece, state),
-        None => refused(Refusal { number: 17, line: 0 }, 0),
+        None => refused(Refusal { number: 17, line: 0, byte: 0 }, 0),
     }
 }
 
@@ -73,10 +73,10 @@ fn run_lines(list: &[u8], header: &Header, areas: &mut Areas, piece: &[u8], stat
     while state.at < list.len() {
         let outcome = match decode(list, state.at) {
             Ok((command, next)) => match check(list, header, &lengths, state, &mut marks, &command) {
-                Ok(()) => run_command(list, areas, piece, state, &mut taken, &command).map(|going| (going, next)),
-                Err(number) => Err(number),
+                Ok(()) => run_command(list, areas, piece, state, &mut taken, &command).map(|going| (going, next)).map_err(|number| (number, 0)),
+                Err(number) => Err((number, 0)),
             },
-            Err(number) => Err(number),
+            Err(fault) => Err(fault),
         };
         match outcome {
             Ok((true, next)) => {
@@ -84,8 +84,8 @@ fn run_lines(list: &[u8], header: &Header, areas: &mut Areas, piece: &[u8], stat
                 state.line += 1;
             }
             Ok((false, _)) => return Called { outcome: Outcome::More, taken },
-            Err(number) => {
-                state.refusal = Refusal { number, line: state.line };
+            Err((number, byte)) => {
+                state.refusal = Refusal { number, line: state.line, byte };
                 return refused(state.refusal, taken);
             }
         }

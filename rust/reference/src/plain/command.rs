@@ -59,51 +59,62 @@ impl Move {
     }
 }
 
-fn word_is(text: &[u8], word: &[u8]) -> bool {
-    text.len() >= word.len() && text[..word.len()] == *word && matches!(text.get(word.len()), None | Some(b' ') | Some(b'\n'))
+/// A first word, whatever follows it.
+fn is_imgdiff(text: &[u8]) -> bool {
+    match text.strip_prefix(b"imgdiff") {
+        Some(rest) => matches!(rest.first(), None | Some(b' ' | b'\n')),
+        None => false,
+    }
 }
 
-/// The command line at `at` and where the next line starts; or 6 or 7.
-pub(super) fn decode(list: &[u8], at: usize) -> Result<(Command, usize), usize> {
-    let text = &list[at.min(list.len())..];
-    if word_is(text, b"imgdiff") {
-        return Err(7);
-    }
+/// The command line at `at` and where the next line starts; or 6 and the byte of the line's first fault, or 7.
+pub(super) fn decode(list: &[u8], at: usize) -> Result<(Command, usize), (usize, usize)> {
     let mut reader = Reader { text: list, at };
     match command(&mut reader) {
         Some(command) => Ok((command, reader.at)),
-        None => Err(6),
+        None if is_imgdiff(list.get(at..).unwrap_or_default()) => Err((7, 0)),
+        None => Err((6, reader.at)),
     }
 }
 
+/// No two words start alike.
 fn command(reader: &mut Reader) -> Option<Command> {
-    let text = &reader.text[reader.at..];
-    for (word, which) in [(&b"zero"[..], 0), (b"erase", 1), (b"new", 2), (b"move", 3), (b"bsdiff", 4), (b"stash", 5), (b"free", 6)] {
-        if !word_is(text, word) {
-            continue;
+    let command = match reader.peek()? {
+        b'z' => {
+            reader.bytes(b"zero ")?;
+            Command::Zero(reader.set()?)
         }
-        reader.at += word.len();
-        reader.byte(b' ')?;
-        let command = match which {
-            0 => Command::Zero(reader.set()?),
-            1 => Command::Erase(reader.set()?),
-            2 => Command::New(reader.set()?),
-            3 => {
-                let hash = reader.hash()?;
-                Command::Move(move_line(reader, hash)?)
-            }
-            4 => Command::Bsdiff(bsdiff_line(reader)?),
-            5 => {
-                let hash = reader.hash()?;
-                reader.byte(b' ')?;
-                Command::Stash(hash, reader.set()?)
-            }
-            _ => Command::Free(reader.hash()?),
-        };
-        reader.byte(b'\n')?;
-        return Some(command);
-    }
-    None
+        b'e' => {
+            reader.bytes(b"erase ")?;
+            Command::Erase(reader.set()?)
+        }
+        b'n' => {
+            reader.bytes(b"new ")?;
+            Command::New(reader.set()?)
+        }
+        b'm' => {
+            reader.bytes(b"move ")?;
+            let hash = reader.hash()?;
+            Command::Move(move_line(reader, hash)?)
+        }
+        b'b' => {
+            reader.bytes(b"bsdiff ")?;
+            Command::Bsdiff(bsdiff_line(reader)?)
+        }
+        b's' => {
+            reader.bytes(b"stash ")?;
+            let hash = reader.hash()?;
+            reader.byte(b' ')?;
+            Command::Stash(hash, reader.set()?)
+        }
+        b'f' => {
+            reader.bytes(b"free ")?;
+            Command::Free(reader.hash()?)
+        }
+        _ => return None,
+    };
+    reader.byte(b'\n')?;
+    Some(command)
 }
 
 /// What follows `bsdiff ` up to the LF.

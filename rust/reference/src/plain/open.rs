@@ -23,9 +23,8 @@ fn opening(list: &[u8], lengths: &Lengths) -> Result<usize, Refusal> {
     let mut at = header.after;
     let mut line = 5;
     while at < list.len() {
-        let refuse = |number| Refusal { number, line };
-        let (command, next) = decode(list, at).map_err(refuse)?;
-        check(list, &header, lengths, &held, &mut marks, &command).map_err(refuse)?;
+        let (command, next) = decode(list, at).map_err(|(number, byte)| Refusal { number, line, byte })?;
+        check(list, &header, lengths, &held, &mut marks, &command).map_err(|number| Refusal { number, line, byte: 0 })?;
         match command {
             Command::New(target) | Command::Zero(target) => total += target.blocks,
             Command::Move(Move { target, .. }) | Command::Bsdiff(Bsdiff { line: Move { target, .. }, .. }) => total += target.blocks,
@@ -41,7 +40,7 @@ fn opening(list: &[u8], lengths: &Lengths) -> Result<usize, Refusal> {
         line += 1;
     }
     if total != header.total {
-        return Err(Refusal { number: 15, line: 2 });
+        return Err(Refusal { number: 15, line: 2, byte: 0 });
     }
     Ok(header.after)
 }

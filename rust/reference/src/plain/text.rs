@@ -4,6 +4,8 @@ use crate::Hash;
 
 const MOST_NUMBER: u64 = 4_294_967_295;
 
+/// A place in the text. What must stand there is read and moves it on. Where that does not stand there, the place is then the first byte at
+/// which no good line could go on, or the text's end.
 #[derive(Clone, Copy)]
 pub(super) struct Reader<'a> {
     pub(super) text: &'a [u8],
@@ -32,6 +34,13 @@ impl<'a> Reader<'a> {
         Some(())
     }
 
+    pub(super) fn bytes(&mut self, want: &[u8]) -> Option<()> {
+        for byte in want {
+            self.byte(*byte)?;
+        }
+        Some(())
+    }
+
     /// Decimal, at most 4,294,967,295, no sign, no leading zero.
     pub(super) fn number(&mut self) -> Option<u64> {
         let start = self.at;
@@ -50,6 +59,22 @@ impl<'a> Reader<'a> {
             return None;
         }
         Some(value)
+    }
+
+    /// A number that is no good here, read once more from its start: to the first digit that it may not have, else to the byte behind it. `open`
+    /// says of a value whether it can go on.
+    #[cold]
+    fn no_number(&mut self, start: usize, open: impl Fn(u64) -> bool) {
+        self.at = start;
+        let mut value = 0u64;
+        while let Some(c @ b'0'..=b'9') = self.peek() {
+            let leading = self.at > start && value == 0;
+            value = 10 * value + (c - b'0') as u64;
+            if leading || value > MOST_NUMBER || !open(value) {
+                return;
+            }
+            self.at += 1;
+        }
     }
 
     fn digit(&mut self) -> Option<u8> {
@@ -73,27 +98,40 @@ impl<'a> Reader<'a> {
 
     /// A count, even and at least 2, then that many numbers; each pair's end is not below its start.
     pub(super) fn set(&mut self) -> Option<Set> {
-        let count = self.number()?;
-        if count < 2 || count % 2 != 0 {
-            return None;
-        }
+        let count = self.count()?;
         let mut set = Set { first: self.at, pairs: (count / 2) as usize, blocks: 0, end: 0 };
         for _ in 0..set.pairs {
             let (start, end) = self.pair()?;
-            if end < start {
-                return None;
-            }
             set.blocks += end - start;
             set.end = set.end.max(end);
         }
         Some(set)
     }
 
+    fn count(&mut self) -> Option<u64> {
+        let start = self.at;
+        match self.number() {
+            Some(count) if count >= 2 && count % 2 == 0 => Some(count),
+            _ => {
+                // With a digit more an odd one is even.
+                self.no_number(start, |value| value != 0 && (value % 2 == 0 || 10 * value <= MOST_NUMBER));
+                None
+            }
+        }
+    }
+
     fn pair(&mut self) -> Option<(u64, u64)> {
         self.byte(b',')?;
         let start = self.number()?;
         self.byte(b',')?;
-        Some((start, self.number()?))
+        let at = self.at;
+        match self.number() {
+            Some(end) if end >= start => Some((start, end)),
+            _ => {
+                self.no_number(at, |value| reaches(value, start));
+                None
+            }
+        }
     }
 
     /// One `H:L`.
@@ -102,6 +140,22 @@ impl<'a> Reader<'a> {
         self.byte(b':')?;
         Some((hash, self.set()?))
     }
+}
+
+/// Whether these digits, with some more behind them or none, can be a number that is not below `least`.
+fn reaches(value: u64, least: u64) -> bool {
+    let (mut low, mut high) = (value, value);
+    while low <= MOST_NUMBER {
+        if high >= least {
+            return true;
+        }
+        if value == 0 {
+            return false;
+        }
+        low *= 10;
+        high = 10 * high + 9;
+    }
+    false
 }
 
 /// The pairs of a set that was read before.

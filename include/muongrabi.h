@@ -37,8 +37,8 @@
 extern "C" {
 #endif
 
-#define MUONGRABI_VERSION "0.5.0"
-#define MUONGRABI_ABI 3   /* another number whenever what the archive exports changes: the layout of a struct or the parameters of a function */
+#define MUONGRABI_VERSION "0.6.0"
+#define MUONGRABI_ABI 4   /* another number whenever what the archive exports changes: the layout of a struct or the parameters of a function */
 
 /* Limits, 64 bits wide, so that blocks times bytes do not wrap. */
 #define MUONGRABI_BLOCK 4096ul          /* bytes of a block */
@@ -51,10 +51,15 @@ extern "C" {
 /* Outcomes of a call. */
 #define MUONGRABI_DONE 0u      /* the list is finished */
 #define MUONGRABI_MORE 1u      /* every byte of the piece is taken, and the next byte of new data is needed */
-#define MUONGRABI_REFUSED 2u   /* see the answer's number and line */
+#define MUONGRABI_REFUSED 2u   /* see the answer's number, line and byte */
 
 /*
  * Refusal numbers. The line given with one is that line of the list, counted from 1, where nothing else is said.
+ *
+ * With 3 and 6 comes a byte of the list, counted from 0: the first one at which no good line could go on. What could still have followed
+ * decides, so that it is not always where the mistake was made: an odd count is wrong at the comma behind it, since a digit more could have made
+ * it even. It may be the line's LF; where the list ends too soon, or a header line is absent, it is the list's length. Good here is every line
+ * that none of 3, 6 and 7 would be given for. With all other numbers the byte is 0, which with 3 is the list's first.
  *
  * An opening gives 1 to 15 and 18, and looks at no block and at no patch. A call gives 6 to 14 and 16 to 19, and repeats the refusal that
  * its state holds. On the list that was opened, with the state as each call left it and areas and patch data of the same lengths, it gives 16
@@ -140,6 +145,7 @@ static inline const char *muongrabi_refusal_text(size_t number)
 typedef struct muongrabi_refusal {
     size_t number;
     size_t line;
+    size_t byte;   /* of the list, with 3 and 6; else 0 */
 } muongrabi_refusal;
 
 /* The lengths at opening, in bytes. */
@@ -163,7 +169,7 @@ typedef struct muongrabi_state {
     size_t line;                 /* the current line's number */
     size_t at;                   /* where it starts in the list, in bytes from 0 */
     size_t into;                 /* bytes written so far of a `new` */
-    muongrabi_refusal refusal;   /* what every later call repeats, if its number is not 0 */
+    muongrabi_refusal refusal;   /* what every later call repeats as it is, if its number is not 0 */
     muongrabi_lengths lengths;
 } muongrabi_state;
 
@@ -172,6 +178,7 @@ typedef struct muongrabi_answer {
     size_t outcome;   /* MUONGRABI_DONE, MUONGRABI_MORE or MUONGRABI_REFUSED */
     size_t number;    /* of the refusal, else 0 */
     size_t line;      /* of the refusal, else 0 */
+    size_t byte;      /* of the list, with 3 and 6, else 0; where a held refusal is repeated, whatever it holds */
     size_t taken;     /* bytes of the piece that were used */
 } muongrabi_answer;
 
@@ -195,6 +202,7 @@ typedef struct muongrabi_export_answer {
     size_t outcome;
     size_t number;
     size_t line;
+    size_t byte;
     size_t taken;
 } muongrabi_export_answer;
 
@@ -207,7 +215,9 @@ typedef struct muongrabi_export_answer {
 #define MUONGRABI_LAYOUT(name, holds) typedef char muongrabi_layout_of_##name[(holds) ? 1 : -1]
 #endif
 MUONGRABI_LAYOUT(number, sizeof(size_t) == 8);
-MUONGRABI_LAYOUT(refusal, sizeof(muongrabi_refusal) == 16);
+MUONGRABI_LAYOUT(refusal_line, offsetof(muongrabi_refusal, line) == 8);
+MUONGRABI_LAYOUT(refusal_byte, offsetof(muongrabi_refusal, byte) == 16);
+MUONGRABI_LAYOUT(refusal, sizeof(muongrabi_refusal) == 24);
 MUONGRABI_LAYOUT(lengths, sizeof(muongrabi_lengths) == 48);
 MUONGRABI_LAYOUT(state_sizes, offsetof(muongrabi_state, sizes) == 5120);
 MUONGRABI_LAYOUT(state_count, offsetof(muongrabi_state, count) == 7168);
@@ -215,23 +225,24 @@ MUONGRABI_LAYOUT(state_line, offsetof(muongrabi_state, line) == 7176);
 MUONGRABI_LAYOUT(state_at, offsetof(muongrabi_state, at) == 7184);
 MUONGRABI_LAYOUT(state_into, offsetof(muongrabi_state, into) == 7192);
 MUONGRABI_LAYOUT(state_refusal, offsetof(muongrabi_state, refusal) == 7200);
-MUONGRABI_LAYOUT(state_lengths, offsetof(muongrabi_state, lengths) == 7216);
-MUONGRABI_LAYOUT(state, sizeof(muongrabi_state) == 7264);
+MUONGRABI_LAYOUT(state_lengths, offsetof(muongrabi_state, lengths) == 7224);
+MUONGRABI_LAYOUT(state, sizeof(muongrabi_state) == 7272);
 MUONGRABI_LAYOUT(progress_line, offsetof(muongrabi_progress, line) == 8);
 MUONGRABI_LAYOUT(progress_at, offsetof(muongrabi_progress, at) == 16);
 MUONGRABI_LAYOUT(progress_into, offsetof(muongrabi_progress, into) == 24);
 MUONGRABI_LAYOUT(progress_refusal, offsetof(muongrabi_progress, refusal) == 32);
-MUONGRABI_LAYOUT(progress_lengths, offsetof(muongrabi_progress, lengths) == 48);
-MUONGRABI_LAYOUT(progress, sizeof(muongrabi_progress) == 96);
-MUONGRABI_LAYOUT(answer_outcome, offsetof(muongrabi_export_answer, outcome) == 96);
-MUONGRABI_LAYOUT(answer_number, offsetof(muongrabi_export_answer, number) == 104);
-MUONGRABI_LAYOUT(answer_line, offsetof(muongrabi_export_answer, line) == 112);
-MUONGRABI_LAYOUT(answer_taken, offsetof(muongrabi_export_answer, taken) == 120);
-MUONGRABI_LAYOUT(answer, sizeof(muongrabi_export_answer) == 128);
+MUONGRABI_LAYOUT(progress_lengths, offsetof(muongrabi_progress, lengths) == 56);
+MUONGRABI_LAYOUT(progress, sizeof(muongrabi_progress) == 104);
+MUONGRABI_LAYOUT(answer_outcome, offsetof(muongrabi_export_answer, outcome) == 104);
+MUONGRABI_LAYOUT(answer_number, offsetof(muongrabi_export_answer, number) == 112);
+MUONGRABI_LAYOUT(answer_line, offsetof(muongrabi_export_answer, line) == 120);
+MUONGRABI_LAYOUT(answer_byte, offsetof(muongrabi_export_answer, byte) == 128);
+MUONGRABI_LAYOUT(answer_taken, offsetof(muongrabi_export_answer, taken) == 136);
+MUONGRABI_LAYOUT(answer, sizeof(muongrabi_export_answer) == 144);
 #undef MUONGRABI_LAYOUT
 
 /* MUONGRABI_ABI as the archive has it. The name has the number too: what was compiled with a header of another ABI does not link. */
-size_t muongrabi_abi_3(void);
+size_t muongrabi_abi_4(void);
 
 void muongrabi_digest(const uint8_t *bytes, size_t bytes_length, uint8_t out[20]);
 
@@ -311,13 +322,14 @@ static inline muongrabi_answer muongrabi_answered(const muongrabi_export_answer 
     answer.outcome = from->outcome;
     answer.number = from->number;
     answer.line = from->line;
+    answer.byte = from->byte;
     answer.taken = from->taken;
     return answer;
 }
 
 /*
  * The functions to call. Each is called by its name without `_lent`, which stands for it from the end of this header on: muongrabi_digest,
- * muongrabi_open, muongrabi_call, muongrabi_run and muongrabi_sparse_load. All but the digest's name muongrabi_abi_3 too.
+ * muongrabi_open, muongrabi_call, muongrabi_run and muongrabi_sparse_load. All but the digest's name muongrabi_abi_4 too.
  */
 
 /* Writes the SHA-1 digest of the bytes to out. */
@@ -334,7 +346,7 @@ static inline muongrabi_state muongrabi_open_lent(const uint8_t *list, size_t li
                                                   size_t image_length, size_t stash_length, size_t work_length,
                                                   size_t result_length, size_t patch_length)
 {
-    (void)muongrabi_abi_3();
+    (void)muongrabi_abi_4();
     return muongrabi_open(muongrabi_lent_bytes(list), muongrabi_lent_length(list, list_length),
                           image_length, stash_length, work_length, result_length, patch_length);
 }
@@ -363,7 +375,7 @@ static inline muongrabi_answer muongrabi_call_lent(const uint8_t *list, size_t l
                                                    muongrabi_state *state)
 {
     muongrabi_export_answer answer;
-    (void)muongrabi_abi_3();
+    (void)muongrabi_abi_4();
     answer = muongrabi_call(muongrabi_lent_bytes(list), muongrabi_lent_length(list, list_length),
                             muongrabi_lent_area(image), muongrabi_lent_length(image, image_length),
                             muongrabi_lent_area(stash), muongrabi_lent_length(stash, stash_length),
@@ -378,8 +390,8 @@ static inline muongrabi_answer muongrabi_call_lent(const uint8_t *list, size_t l
 /*
  * Opens the list, then calls with pieces of data, whose lengths are the cuts_length numbers of cuts, cut short where data ends, and
  * once more with all that is left. The answer is the last call's, its taken the sum over all calls. The state after that call is put into
- * *state, which must not be null; what it held is not looked at. A refused opening is answered with MUONGRABI_REFUSED, its number and line,
- * and taken 0; nothing but *state is changed then, which is the opening's.
+ * *state, which must not be null; what it held is not looked at. A refused opening is answered with MUONGRABI_REFUSED, its number, line and
+ * byte, and taken 0; nothing but *state is changed then, which is the opening's.
  */
 static inline muongrabi_answer muongrabi_run_lent(const uint8_t *list, size_t list_length,
                                                   uint8_t *image, size_t image_length,
@@ -392,7 +404,7 @@ static inline muongrabi_answer muongrabi_run_lent(const uint8_t *list, size_t li
                                                   muongrabi_state *state)
 {
     muongrabi_export_answer answer;
-    (void)muongrabi_abi_3();
+    (void)muongrabi_abi_4();
     answer = muongrabi_run(muongrabi_lent_bytes(list), muongrabi_lent_length(list, list_length),
                            muongrabi_lent_area(image), muongrabi_lent_length(image, image_length),
                            muongrabi_lent_area(stash), muongrabi_lent_length(stash, stash_length),
@@ -414,7 +426,7 @@ static inline muongrabi_answer muongrabi_run_lent(const uint8_t *list, size_t li
  */
 static inline uint32_t muongrabi_sparse_load_lent(const uint8_t *file, size_t file_length, uint8_t *image, size_t image_length)
 {
-    (void)muongrabi_abi_3();
+    (void)muongrabi_abi_4();
     return muongrabi_sparse_load(muongrabi_lent_bytes(file), muongrabi_lent_length(file, file_length),
                                  muongrabi_lent_area(image), muongrabi_lent_length(image, image_length));
 }

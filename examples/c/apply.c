@@ -3,8 +3,9 @@
  *
  * LIST is the transfer list, IMAGE the image that is updated in its place, NEW the new data, read in pieces, so it may be larger than
  * memory, and PATCH the patch data, where the list has `bsdiff` lines. The image is written back after a run, refused or not; a refused opening
- * leaves it alone. The areas are as large as the list needs them. Prints `done T`, `more T` (T: bytes of new data taken) or `refused: ` and why.
- * Exit status: 0 done, 1 more or refused, 2 for a file that cannot be read or written.
+ * leaves it alone. The areas are as large as the list needs them. Prints `done T`, `more T` (T: bytes of new data taken) or `refused: ` and why;
+ * where a line is ill formed, then the line, and a mark under the first byte that is wrong. Exit status: 0 done, 1 more or refused, 2 for a file
+ * that cannot be read or written.
  */
 #include <stdio.h>
 #include <stdlib.h>
@@ -43,11 +44,39 @@ static uint8_t *read_file(FILE *file, const char *name, size_t *length)
     return bytes;
 }
 
-static int refused(size_t number, size_t line)
+#define SHOWN 64   /* bytes of a line that are shown at most */
+
+/*
+ * Shows the line that has this byte, with a mark under it. The byte may be the line's LF or the list's end: the mark then stands behind the line.
+ * One past the list, which a state that was kept elsewhere may hold, is in no line.
+ */
+static void show(const uint8_t *list, size_t length, size_t byte)
 {
+    if (byte > length) return;
+    size_t start = byte, end = byte;
+    while (start > 0 && list[start - 1] != '\n') start--;
+    while (end < length && list[end] != '\n') end++;
+    /* Of a long line the part around the byte. */
+    size_t from = start;
+    if (end - start > SHOWN) {
+        if (byte - start > SHOWN / 2) from = byte - SHOWN / 2;
+        if (from > end - SHOWN) from = end - SHOWN;
+    }
+    size_t to = end - from > SHOWN ? from + SHOWN : end;
+    printf("    %s", from > start ? ".." : "");
+    /* A terminal would obey some bytes, and take others for part of a character. */
+    for (size_t k = from; k < to; k++) putchar(list[k] >= ' ' && list[k] <= '~' ? list[k] : '?');
+    printf("%s\n    %*s^\n", to < end ? ".." : "", (int)(byte - from + (from > start ? 2 : 0)), "");
+}
+
+static int refused(const uint8_t *list, size_t length, muongrabi_refusal refusal)
+{
+    int ill_formed = refusal.number == MUONGRABI_REFUSAL_HEADER_FORM || refusal.number == MUONGRABI_REFUSAL_LINE_FORM;
     printf("refused: ");
-    if (line != 0) printf("line %zu: ", line);
-    printf("%s (refusal %zu)\n", muongrabi_refusal_text(number), number);
+    if (ill_formed) printf("line %zu, byte %zu of the list: ", refusal.line, refusal.byte);
+    else if (refusal.line != 0) printf("line %zu: ", refusal.line);
+    printf("%s (refusal %zu)\n", muongrabi_refusal_text(refusal.number), refusal.number);
+    if (ill_formed) show(list, length, refusal.byte);
     return 1;
 }
 
@@ -99,7 +128,7 @@ int main(int argc, char **argv)
     int status;
     muongrabi_state state = opened(list, &lengths);
     if (state.refusal.number != 0) {
-        status = refused(state.refusal.number, state.refusal.line);
+        status = refused(list, lengths.list, state.refusal);
     } else {
         fit(list, &lengths, &lengths.stash);
         fit(list, &lengths, &lengths.work);
@@ -121,7 +150,7 @@ int main(int argc, char **argv)
         rewind(image_file);
         if (fwrite(image, 1, lengths.image, image_file) != lengths.image || fflush(image_file) != 0) fail(argv[2]);
         if (answer.outcome == MUONGRABI_REFUSED) {
-            status = refused(answer.number, answer.line);
+            status = refused(list, lengths.list, (muongrabi_refusal){answer.number, answer.line, answer.byte});
         } else {
             printf("%s %zu\n", answer.outcome == MUONGRABI_DONE ? "done" : "more", taken);
             status = answer.outcome == MUONGRABI_DONE ? 0 : 1;

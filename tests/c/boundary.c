@@ -66,11 +66,28 @@ static int holds(const uint8_t *bytes, const char *letters)
     return 1;
 }
 
-/* An outcome that there is; a number and a line only where it is a refusal. */
+static int with_byte(size_t number)
+{
+    return number == MUONGRABI_REFUSAL_HEADER_FORM || number == MUONGRABI_REFUSAL_LINE_FORM;
+}
+
+/* An outcome that there is; a number and a line only where it is a refusal, and a byte only where it is one with a byte. */
 static int sound(const muongrabi_answer *answer)
 {
     int refused = answer->outcome == MUONGRABI_REFUSED;
-    return answer->outcome <= MUONGRABI_REFUSED && (refused ? answer->number != 0 : answer->number == 0 && answer->line == 0);
+    return answer->outcome <= MUONGRABI_REFUSED && (refused ? answer->number != 0 : answer->number == 0 && answer->line == 0) &&
+           (with_byte(answer->number) || answer->byte == 0);
+}
+
+/* The answer is this refusal, with nothing taken. */
+static int is_refused(const muongrabi_answer *answer, size_t number, size_t line, size_t byte)
+{
+    return answer->outcome == MUONGRABI_REFUSED && answer->number == number && answer->line == line && answer->byte == byte && answer->taken == 0;
+}
+
+static int refusal_is(const muongrabi_refusal *refusal, size_t number, size_t line, size_t byte)
+{
+    return refusal->number == number && refusal->line == line && refusal->byte == byte;
 }
 
 /* Nothing but its refusal. */
@@ -238,7 +255,8 @@ static void whole_runs(size_t length)
     }
 }
 
-/* Every beginning of the list, opened and called from every line: nothing is read past its last byte. */
+/* Every beginning of the list, opened and called from every line: nothing is read past its last byte, and a line that ends too soon is wrong
+ * where the list ends. */
 static void beginnings(size_t length)
 {
     static uint8_t image[8 * BLOCK], data[3 * BLOCK], stash[3 * BLOCK], work[4 * BLOCK], result[2 * BLOCK];
@@ -248,7 +266,8 @@ static void beginnings(size_t length)
         const uint8_t *l = lay(&list_lot, list, n, 1, 1);
         muongrabi_state state = muongrabi_open(l, n, sizeof image, sizeof stash, sizeof work, sizeof result, patch_length);
         size_t number = state.refusal.number;
-        good &= n == length ? number == 0 : only_refused(&state) && (number == 3 || number == 6 || number == 15);
+        good &= n == length ? number == 0 : only_refused(&state) && (with_byte(number) || number == 15);
+        good &= state.refusal.byte == (with_byte(number) ? n : 0);
         for (size_t at = 0, line = 1; at <= n; at++) {
             if (at > 0 && list[at - 1] == '\n') line++;
             if (at > 0 && at < n && list[at - 1] != '\n') continue;
@@ -266,7 +285,7 @@ static void beginnings(size_t length)
             const uint8_t *d = lay(&piece_lot, data, sizeof data, 1, 1);
             muongrabi_answer answer = muongrabi_call(l, n, i, sizeof image, s, sizeof stash, w, sizeof work, r, sizeof result,
                                                      p, patch_length, d, sizeof data, lay_state(from, 1));
-            good &= sound(&answer);
+            good &= sound(&answer) && answer.byte == (with_byte(answer.number) ? n : 0);
         }
     }
     check(good, "every beginning of the list");
@@ -404,10 +423,10 @@ static void nothing_lent(void)
                                                  none.first, 0, &state);
         check(answer.outcome == MUONGRABI_DONE && answer.taken == 0, "the empty list with nothing lent");
         state = muongrabi_open(none.first, 0, 0, 0, 0, 0, 0);
-        check(state.refusal.number == 3 && state.refusal.line == 1, "no list");
+        check(refusal_is(&state.refusal, 3, 1, 0), "no list");
         answer = muongrabi_run(none.first, 0, none.first, 0, none.first, 0, none.first, 0, none.first, 0, none.first, 0,
                                none.first, 0, (const size_t *)(const void *)none.first, 0, &state);
-        check(answer.outcome == MUONGRABI_REFUSED && answer.number == 3 && answer.line == 1 && answer.taken == 0, "a run over no list");
+        check(is_refused(&answer, 3, 1, 0), "a run over no list");
         check(only_refused(&state), "the state of a run over no list");
     }
 
@@ -437,6 +456,74 @@ static void nothing_lent(void)
         }
     }
     check(good, "states of border values");
+}
+
+/*
+ * Where a line is wrong: in an opening, in a run, and in a call over a list altered since. The state keeps it, and a call over the good list
+ * repeats it. A call gives 17 where the header is ill formed now, which has no byte.
+ */
+static void faults(void)
+{
+    static const struct {
+        const char *text;
+        muongrabi_refusal refusal;
+    } lists[] = {
+        {"", {3, 1, 0}},
+        {"x", {3, 1, 0}},
+        {"3\n0\n0\n", {3, 4, 6}},
+        {"3\n0\n0\n00\n", {3, 4, 7}},
+        {"3\n0\n0\n0", {3, 4, 7}},
+        {"3\n4294967296\n0\n0\n", {3, 2, 11}},
+        {"3\n0\n0\n0\nzap\n", {6, 5, 9}},
+        {"3\n0\n0\n0\n\n", {6, 5, 8}},
+        {"3\n0\n0\n0\nzero 3,0,1\n", {6, 5, 14}},
+        {"3\n0\n0\n0\nzero 2,5,3\n", {6, 5, 18}},
+        {"3\n0\n0\n0\nzero 2,5,0\n", {6, 5, 17}},
+        {"3\n0\n0\n0\nzero 2,0,1", {6, 5, 18}},
+        {"3\n0\n0\n0\nzero 2,0,\x80\n", {6, 5, 17}},
+        {"3\n1\n0\n0\nzero 2,0,1\nzero 2,0,1 \n", {6, 6, 29}},
+        {"3\n0\n0\n0\nimgdif\n", {6, 5, 8}},
+        {"3\n0\n0\n0\nimgdiff\n", {7, 5, 0}},
+        {"3\n1\n0\n0\nzero 2,1,2\n", {8, 5, 0}},
+    };
+    static const char *good = "3\n0\n0\n0\n";
+    static uint8_t image[BLOCK];
+    lot none = new_lot(0);
+    for (size_t k = 0; k < 2 * sizeof lists / sizeof *lists; k++) {
+        int behind = k % 2;
+        const char *text = lists[k / 2].text;
+        size_t length = strlen(text);
+        size_t number = lists[k / 2].refusal.number, line = lists[k / 2].refusal.line, byte = lists[k / 2].refusal.byte;
+        fill(image, "A");
+        const uint8_t *l = lay(&list_lot, text, length, behind, 1);
+        uint8_t *i = lay(&image_lot, image, BLOCK, behind, 0);
+        muongrabi_state opened = muongrabi_open(l, length, BLOCK, 0, 0, 0, 0);
+        check(refusal_is(&opened.refusal, number, line, byte) && only_refused(&opened), "an ill formed list");
+        muongrabi_state *state = lay_state(opened, behind);
+        memset(state, 0xa5, sizeof *state);
+        muongrabi_answer answer = muongrabi_run(l, length, i, BLOCK, none.first, 0, none.first, 0, none.first, 0, none.first, 0,
+                                                none.first, 0, (const size_t *)(const void *)none.first, 0, state);
+        check(is_refused(&answer, number, line, byte) && memcmp(state, &opened, sizeof opened) == 0, "a run over an ill formed list");
+        check(holds(i, "A"), "the image after it");
+
+        /* From where a good list with this header would begin. */
+        memset(state, 0, sizeof *state);
+        state->at = 8;
+        state->line = 5;
+        state->lengths = (muongrabi_lengths){.list = length, .image = BLOCK};
+        muongrabi_state before = *state;
+        answer = muongrabi_call(l, length, i, BLOCK, none.first, 0, none.first, 0, none.first, 0, none.first, 0, none.first, 0, state);
+        if (number == MUONGRABI_REFUSAL_HEADER_FORM) {
+            check(is_refused(&answer, 17, 0, 0) && memcmp(state, &before, sizeof before) == 0, "a call over an ill formed header");
+            continue;
+        }
+        check(is_refused(&answer, number, line, byte) && refusal_is(&state->refusal, number, line, byte), "a call over an ill formed line");
+        check(holds(i, line == 5 ? "A" : "0"), "the image after that");
+        before = *state;
+        l = lay(&list_lot, good, strlen(good), behind, 1);
+        answer = muongrabi_call(l, strlen(good), i, BLOCK, none.first, 0, none.first, 0, none.first, 0, none.first, 0, none.first, 0, state);
+        check(is_refused(&answer, number, line, byte) && memcmp(state, &before, sizeof before) == 0, "the same again");
+    }
 }
 
 /* A state with bytes on both sides. */
@@ -501,18 +588,20 @@ static void states_in_place(void)
         if (k == 4) kept.state.into = 1;
         muongrabi_state before = kept.state;
         muongrabi_answer answer = call_kept(text, k == 5 ? length - 1 : length, image, stash, work, data, BLOCK);
-        check(answer.outcome == MUONGRABI_REFUSED && answer.number == 17 && answer.line == 0 && answer.taken == 0, "17");
+        check(is_refused(&answer, 17, 0, 0), "17");
         check(memcmp(&kept.state, &before, sizeof before) == 0, "the state after 17");
     }
-    /* A refusal that is held, with a table that is good, and with one that would be 17 without it. */
-    for (int k = 0; k < 2; k++) {
+    /* A refusal that is held, whatever it is, with a table that is good, and with one that would be 17 without it. */
+    static const muongrabi_refusal held[] = {{16, 9, 0}, {16, 9, 77}, {6, 5, 8}, {6, 0, SIZE_MAX}, {3, 1, 0}, {3, 7, 4194305}, {17, 0, 3},
+                                             {99, 98, 97}, {SIZE_MAX, SIZE_MAX, SIZE_MAX}};
+    for (size_t k = 0; k < 2 * sizeof held / sizeof *held; k++) {
+        muongrabi_refusal refusal = held[k / 2];
         kept.state = state;
-        kept.state.refusal.number = 16;
-        kept.state.refusal.line = 9;
-        if (k == 1) kept.state.count = SIZE_MAX;
+        kept.state.refusal = refusal;
+        if (k % 2 == 1) kept.state.count = SIZE_MAX;
         muongrabi_state before = kept.state;
         muongrabi_answer answer = call_kept(text, length, image, stash, work, data, BLOCK);
-        check(answer.outcome == MUONGRABI_REFUSED && answer.number == 16 && answer.line == 9 && answer.taken == 0, "a held refusal");
+        check(is_refused(&answer, refusal.number, refusal.line, refusal.byte), "a held refusal");
         check(memcmp(&kept.state, &before, sizeof before) == 0, "the state after a held refusal");
     }
     check(holds(image, "A") && holds(stash, "x") && holds(work, "w"), "the areas after those");
@@ -668,7 +757,7 @@ static void null_pointers(void)
     static const char *one = "3\n1\n0\n0\nnew 2,0,1\n";
     static uint8_t image[BLOCK], data[BLOCK];
     uint8_t nothing[20], hash[20];
-    check(muongrabi_abi_3() == MUONGRABI_ABI, "the archive is of this header");
+    check(muongrabi_abi_4() == MUONGRABI_ABI, "the archive is of this header");
     muongrabi_digest((const uint8_t *)"", 0, nothing);
     muongrabi_digest(NULL, 0, hash);
     check(memcmp(hash, nothing, 20) == 0, "digest of null");
@@ -676,9 +765,9 @@ static void null_pointers(void)
     check(memcmp(hash, nothing, 20) == 0, "digest of null with a length");
 
     muongrabi_state state = muongrabi_open(NULL, 0, 0, 0, 0, 0, 0);
-    check(state.refusal.number == MUONGRABI_REFUSAL_HEADER_FORM && state.refusal.line == 1, "a null list");
+    check(refusal_is(&state.refusal, MUONGRABI_REFUSAL_HEADER_FORM, 1, 0), "a null list");
     state = muongrabi_open(NULL, 8, 0, 0, 0, 0, 0);
-    check(state.refusal.number == MUONGRABI_REFUSAL_HEADER_FORM && state.refusal.line == 1, "a null list with a length");
+    check(refusal_is(&state.refusal, MUONGRABI_REFUSAL_HEADER_FORM, 1, 0), "a null list with a length");
 
     const uint8_t *list = (const uint8_t *)empty;
     state = muongrabi_open(list, strlen(empty), 0, 0, 0, 0, 0);
@@ -746,6 +835,7 @@ int main(void)
     beginnings(length);
     patches();
     nothing_lent();
+    faults();
     states_in_place();
     sparse_files();
     sparse_files_in_allocated_memory();

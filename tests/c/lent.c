@@ -24,7 +24,7 @@ static void note(int k, const void *pointer, size_t length)
     lengths[k] = length;
 }
 
-size_t muongrabi_abi_3(void)
+size_t muongrabi_abi_4(void)
 {
     asked++;
     return MUONGRABI_ABI;
@@ -140,7 +140,7 @@ static muongrabi_state state_of(uint8_t bytes, size_t first)
 static int put_back(const muongrabi_state *state, const muongrabi_answer *answer, uint8_t bytes, size_t first)
 {
     muongrabi_state expected = state_of(bytes, first);
-    size_t numbers[] = {first + 12, first + 13, first + 14, first + 15};
+    size_t numbers[] = {first + 13, first + 14, first + 15, first + 16, first + 17};
     expected.hashes[20 * MUONGRABI_MOST_STASHES - 1] = (uint8_t)first;
     expected.sizes[MUONGRABI_MOST_STASHES - 1] = first;
     return pointers[8] == state->hashes && pointers[9] == state->sizes && memcmp(state, &expected, sizeof expected) == 0 &&

@@ -2,8 +2,9 @@
 //!
 //! LIST is the transfer list, IMAGE the image that is updated in its place, NEW the new data, read in pieces, so it may be larger than
 //! memory, and PATCH the patch data, where the list has `bsdiff` lines. The image is written back after a run, refused or not; a refused opening
-//! leaves it alone. The areas are as large as the list needs them. Prints `done T`, `more T` (T: bytes of new data taken) or `refused: ` and why.
-//! Exit status: 0 done, 1 more or refused, 2 for a file that cannot be read or written.
+//! leaves it alone. The areas are as large as the list needs them. Prints `done T`, `more T` (T: bytes of new data taken) or `refused: ` and why;
+//! where a line is ill formed, then the line, and a mark under the first byte that is wrong. Exit status: 0 done, 1 more or refused, 2 for a file
+//! that cannot be read or written.
 
 use muongrabi::{open, Areas, Lengths, Outcome, Refusal, Updater, BLOCK, MOST_AREA, MOST_RESULT};
 use std::fs::{self, File, OpenOptions};
@@ -30,8 +31,7 @@ fn least(most: usize, opens: impl Fn(usize) -> bool) -> usize {
 }
 
 /// How the run ended, and the bytes it took. A refused opening is the inner error.
-fn apply(list: &str, image: &str, new: &str, patch: Option<&str>) -> Result<Result<(Outcome, u64), Refusal>, String> {
-    let text = named(list, fs::read(list))?;
+fn apply(text: &[u8], image: &str, new: &str, patch: Option<&str>) -> Result<Result<(Outcome, u64), Refusal>, String> {
     let mut bytes = named(image, fs::read(image))?;
     let mut file = named(image, OpenOptions::new().write(true).open(image))?;
     let mut data = named(new, File::open(new))?;
@@ -39,15 +39,15 @@ fn apply(list: &str, image: &str, new: &str, patch: Option<&str>) -> Result<Resu
     // The largest areas at first, so that no list is refused for want of room.
     let (area, most) = (MOST_AREA * BLOCK, MOST_RESULT * BLOCK);
     let largest = Lengths { image: bytes.len(), stash: area, work: area, result: most, patch: patch.len() };
-    if let Err(refusal) = open(&text, largest) {
+    if let Err(refusal) = open(text, largest) {
         return Ok(Err(refusal));
     }
-    let mut stash = vec![0; BLOCK * least(MOST_AREA, |n| open(&text, Lengths { stash: n * BLOCK, ..largest }).is_ok())];
-    let mut work = vec![0; BLOCK * least(MOST_AREA, |n| open(&text, Lengths { work: n * BLOCK, ..largest }).is_ok())];
-    let mut result = vec![0; BLOCK * least(MOST_RESULT, |n| open(&text, Lengths { result: n * BLOCK, ..largest }).is_ok())];
+    let mut stash = vec![0; BLOCK * least(MOST_AREA, |n| open(text, Lengths { stash: n * BLOCK, ..largest }).is_ok())];
+    let mut work = vec![0; BLOCK * least(MOST_AREA, |n| open(text, Lengths { work: n * BLOCK, ..largest }).is_ok())];
+    let mut result = vec![0; BLOCK * least(MOST_RESULT, |n| open(text, Lengths { result: n * BLOCK, ..largest }).is_ok())];
 
     let areas = Areas { image: &mut bytes, stash: &mut stash, work: &mut work, result: &mut result, patch: &patch };
-    let mut updater = match Updater::open(&text, areas) {
+    let mut updater = match Updater::open(text, areas) {
         Ok(updater) => updater,
         Err(refusal) => return Ok(Err(refusal)),
     };
@@ -63,6 +63,24 @@ fn apply(list: &str, image: &str, new: &str, patch: Option<&str>) -> Result<Resu
     Ok(Ok((outcome, updater.taken())))
 }
 
+/// Bytes of a line that are shown at most.
+const SHOWN: usize = 64;
+
+/// The line that has this byte, with a mark under it. The byte may be the line's LF or the list's end: the mark then stands behind the line.
+/// One past the list, which a state that was kept elsewhere may hold, is in no line.
+fn shown(list: &[u8], byte: usize) -> Option<String> {
+    let (before, behind) = (list.get(..byte)?, list.get(byte..)?);
+    let start = before.iter().rposition(|byte| *byte == b'\n').map_or(0, |at| at + 1);
+    let end = behind.iter().position(|byte| *byte == b'\n').map_or(list.len(), |at| byte + at);
+    // Of a long line the part around the byte.
+    let from = if end - start > SHOWN { byte.saturating_sub(SHOWN / 2).max(start).min(end - SHOWN) } else { start };
+    let to = end.min(from + SHOWN);
+    // A terminal would obey some bytes, and take others for part of a character.
+    let part: String = list[from..to].iter().map(|byte| if matches!(byte, b' '..=b'~') { char::from(*byte) } else { '?' }).collect();
+    let [cut, rest] = [from > start, to < end].map(|is_cut| if is_cut { ".." } else { "" });
+    Some(format!("    {cut}{part}{rest}\n    {:width$}^", "", width = cut.len() + byte - from))
+}
+
 fn main() -> ExitCode {
     let words: Vec<String> = std::env::args().skip(1).collect();
     let ([list, image, new], patch) = match &words[..] {
@@ -73,13 +91,18 @@ fn main() -> ExitCode {
             return ExitCode::from(2);
         }
     };
-    match apply(list, image, new, patch) {
-        Ok(Ok((Outcome::Done, taken))) => {
+    match named(list, fs::read(list)).and_then(|text| apply(&text, image, new, patch).map(|ended| (text, ended))) {
+        Ok((_, Ok((Outcome::Done, taken)))) => {
             println!("done {taken}");
             return ExitCode::SUCCESS;
         }
-        Ok(Ok((Outcome::More, taken))) => println!("more {taken}"),
-        Ok(Ok((Outcome::Refused(refusal), _)) | Err(refusal)) => println!("refused: {refusal}"),
+        Ok((_, Ok((Outcome::More, taken)))) => println!("more {taken}"),
+        Ok((text, Ok((Outcome::Refused(refusal), _)) | Err(refusal))) => {
+            println!("refused: {refusal}");
+            if let Some(lines) = refusal.byte().and_then(|byte| shown(&text, byte)) {
+                println!("{lines}");
+            }
+        }
         Err(error) => {
             eprintln!("{error}");
             return ExitCode::from(2);

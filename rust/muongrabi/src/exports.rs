@@ -15,6 +15,7 @@ pub const TABLE_BYTES: usize = 20 * MOST_STASHES;
 pub struct Refusal {
     pub number: usize,
     pub line: usize,
+    pub byte: usize,
 }
 
 #[repr(C)]
@@ -54,36 +55,41 @@ pub struct Answer {
     pub outcome: usize,
     pub number: usize,
     pub line: usize,
+    pub byte: usize,
     pub taken: usize,
 }
 
-/// The layout that the library was compiled with. It changes together with the number in `muongrabi_abi_3`.
+/// The layout that the library was compiled with. It changes together with the number in `muongrabi_abi_4`.
 const _: () = {
     assert!(size_of::<usize>() == 8);
-    assert!(size_of::<Refusal>() == 16);
+    assert!(offset_of!(Refusal, number) == 0);
+    assert!(offset_of!(Refusal, line) == 8);
+    assert!(offset_of!(Refusal, byte) == 16);
+    assert!(size_of::<Refusal>() == 24);
     assert!(size_of::<Lengths>() == 48);
     assert!(offset_of!(State, hashes) == 0);
     assert!(offset_of!(State, sizes) == 5_120);
     assert!(offset_of!(State, progress) == 7_168);
-    assert!(size_of::<State>() == 7_264);
+    assert!(size_of::<State>() == 7_272);
     assert!(offset_of!(Progress, count) == 0);
     assert!(offset_of!(Progress, line) == 8);
     assert!(offset_of!(Progress, at) == 16);
     assert!(offset_of!(Progress, into) == 24);
     assert!(offset_of!(Progress, refusal) == 32);
-    assert!(offset_of!(Progress, lengths) == 48);
-    assert!(size_of::<Progress>() == 96);
+    assert!(offset_of!(Progress, lengths) == 56);
+    assert!(size_of::<Progress>() == 104);
     assert!(offset_of!(Answer, progress) == 0);
-    assert!(offset_of!(Answer, outcome) == 96);
-    assert!(offset_of!(Answer, number) == 104);
-    assert!(offset_of!(Answer, line) == 112);
-    assert!(offset_of!(Answer, taken) == 120);
-    assert!(size_of::<Answer>() == 128);
+    assert!(offset_of!(Answer, outcome) == 104);
+    assert!(offset_of!(Answer, number) == 112);
+    assert!(offset_of!(Answer, line) == 120);
+    assert!(offset_of!(Answer, byte) == 128);
+    assert!(offset_of!(Answer, taken) == 136);
+    assert!(size_of::<Answer>() == 144);
 };
 
 #[rustfmt::skip]
 extern "C" {
-    fn muongrabi_abi_3() -> usize;
+    fn muongrabi_abi_4() -> usize;
     fn muongrabi_digest(bytes: *const u8, bytes_length: usize, out: *mut [u8; 20]);
     fn muongrabi_open(
         list: *const u8, list_length: usize,
@@ -116,7 +122,7 @@ extern "C" {
 /// Only an archive of this layout has a function of that name, so that no other one links, wherever the linker found it.
 fn ask_abi() {
     // SAFETY: it takes nothing and gives a number.
-    unsafe { muongrabi_abi_3() };
+    unsafe { muongrabi_abi_4() };
 }
 
 pub fn digest(bytes: &[u8]) -> [u8; 20] {

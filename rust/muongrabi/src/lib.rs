@@ -35,6 +35,11 @@
 //! let refusal = open(b"3\n2\n0\n0\nzero 2,7,9\n", lengths).unwrap_err();
 //! assert_eq!(refusal.number(), Refusal::PAST_IMAGE);
 //! assert_eq!(refusal.to_string(), "line 5: a range of the target or source ends past the image (refusal 8)");
+//!
+//! // Where a line is ill formed it names the byte too, counted from the list's start: here the second comma, for want of a number before it.
+//! let refusal = open(b"3\n2\n0\n0\nzero 2,,9\n", lengths).unwrap_err();
+//! assert_eq!((refusal.number(), refusal.byte()), (Refusal::LINE_FORM, Some(15)));
+//! assert!(refusal.to_string().starts_with("line 5, byte 15 of the list: the line is not a command"));
 //! ```
 //!
 //! A first image that comes as an Android sparse file is put into its place by [`load_sparse`].

@@ -41,7 +41,7 @@ impl Called {
         let outcome = match answer.outcome {
             exports::DONE => Outcome::Done,
             exports::MORE => Outcome::More,
-            _ => Outcome::Refused(Refusal::new(answer.number, answer.line)),
+            _ => Outcome::Refused(Refusal::new(answer.number, answer.line, answer.byte)),
         };
         Called { outcome, taken: answer.taken }
     }

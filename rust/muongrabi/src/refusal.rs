@@ -2,13 +2,14 @@
 
 use core::fmt;
 
-/// Why a list, a line, a call or a sparse file is refused, and at which line of the list.
+/// Why a list, a line, a call or a sparse file is refused, at which line of the list, and where a line is ill formed, at which byte.
 ///
 /// Its `Display` is for people: `line 6: a range of the target or source ends past the image (refusal 8)`.
 #[derive(Clone, Copy, PartialEq, Eq, Hash, Debug)]
 pub struct Refusal {
     number: usize,
     line: usize,
+    byte: usize,
 }
 
 /// Each number under its name.
@@ -17,13 +18,13 @@ impl Refusal {
     pub const AREA_SIZE: usize = 1;
     /// The list is too long.
     pub const LIST_LENGTH: usize = 2;
-    /// A header line is absent, ill formed or without LF.
+    /// A header line is absent, ill formed or without LF; [`byte`](Refusal::byte) says where.
     pub const HEADER_FORM: usize = 3;
     /// The version is not 3.
     pub const OTHER_VERSION: usize = 4;
     /// Line 3 is over the limit of stashes; else line 4 is over the stash area.
     pub const HEADER_LIMIT: usize = 5;
-    /// A command line is ill formed, or its word is unknown.
+    /// A command line is ill formed, or its word is unknown; [`byte`](Refusal::byte) says where.
     pub const LINE_FORM: usize = 6;
     /// The line's first word is `imgdiff`.
     pub const UNSUPPORTED: usize = 7;
@@ -68,9 +69,9 @@ impl Refusal {
 }
 
 impl Refusal {
-    /// A refusal with any number and line, as a state may hold it. Number 0 is none.
-    pub const fn new(number: usize, line: usize) -> Refusal {
-        Refusal { number, line }
+    /// A refusal with any number, line and byte, as a state may hold it. Number 0 is none.
+    pub const fn new(number: usize, line: usize, byte: usize) -> Refusal {
+        Refusal { number, line, byte }
     }
 
     /// The refusal's number; the constants name them.
@@ -81,6 +82,37 @@ impl Refusal {
     /// The line of the list, counted from 1; 0 where the refusal is of no line.
     pub const fn line(&self) -> usize {
         self.line
+    }
+
+    /// The byte of the list, counted from 0, at which its line is wrong, where one is given: with [`HEADER_FORM`](Refusal::HEADER_FORM) and
+    /// [`LINE_FORM`](Refusal::LINE_FORM), and with no other number.
+    ///
+    /// It is the first at which no good line could go on. What could still have followed decides, so it is not always where the mistake was made.
+    /// It may be the line's LF; where the list ends too soon, or a header line is absent, it is the list's length.
+    ///
+    /// ```
+    /// use muongrabi::{open, Lengths};
+    ///
+    /// let lengths = Lengths { image: 8 * 4_096, stash: 0, work: 0, result: 0, patch: 0 };
+    /// let byte = |list: &str| open(list.as_bytes(), lengths).unwrap_err().byte();
+    /// // An odd count is wrong at the comma behind it: a digit more could have made it even.
+    /// assert_eq!(byte("3\n0\n0\n0\nzero 3,1,2,3\n"), Some(14));
+    /// // An end below its start, at the LF: 3 could have become 30.
+    /// assert_eq!(byte("3\n0\n0\n0\nzero 2,5,3\n"), Some(18));
+    /// // An end past the image is no fault of form.
+    /// assert_eq!(byte("3\n0\n0\n0\nzero 2,5,30\n"), None);
+    /// ```
+    pub const fn byte(&self) -> Option<usize> {
+        match self.number {
+            Refusal::HEADER_FORM | Refusal::LINE_FORM => Some(self.byte),
+            _ => None,
+        }
+    }
+
+    /// The byte as it is held, whatever the number is: what [`new`](Refusal::new) was given, and 0 where the rules give none. For those who keep
+    /// refusals; [`byte`](Refusal::byte) is for those who read them.
+    pub const fn raw_byte(&self) -> usize {
+        self.byte
     }
 
     /// What the number means, in words. The header's `muongrabi_refusal_text` says the same.
@@ -124,8 +156,10 @@ impl Refusal {
 
 impl fmt::Display for Refusal {
     fn fmt(&self, to: &mut fmt::Formatter<'_>) -> fmt::Result {
-        if self.line != 0 {
-            write!(to, "line {}: ", self.line)?;
+        match (self.line, self.byte()) {
+            (line, Some(byte)) => write!(to, "line {line}, byte {byte} of the list: ")?,
+            (0, None) => {}
+            (line, None) => write!(to, "line {line}: ")?,
         }
         write!(to, "{} (refusal {})", self.text(), self.number)
     }

@@ -6,7 +6,7 @@ use crate::{exports, Refusal};
 ///
 /// A raw chunk's blocks get the bytes it carries, a fill's blocks its four bytes over and over, and don't-care blocks keep what the image has.
 /// The whole file is checked before the first byte is written: a file that is refused, with [`SPARSE_HEADER`](Refusal::SPARSE_HEADER) to
-/// [`SPARSE_END`](Refusal::SPARSE_END), leaves the image as it was. Its refusal has no line.
+/// [`SPARSE_END`](Refusal::SPARSE_END), leaves the image as it was. Its refusal has no line and no byte.
 ///
 /// ```
 /// use muongrabi::{load_sparse, Refusal, BLOCK};
@@ -35,12 +35,12 @@ use crate::{exports, Refusal};
 ///
 /// // Cut short, it is refused.
 /// let refusal = load_sparse(&file[..file.len() - 1], &mut image).unwrap_err();
-/// assert_eq!(refusal, Refusal::new(Refusal::SPARSE_CHUNK, 0));
+/// assert_eq!(refusal, Refusal::new(Refusal::SPARSE_CHUNK, 0, 0));
 /// # Ok::<(), Refusal>(())
 /// ```
 pub fn load_sparse(file: &[u8], image: &mut [u8]) -> Result<(), Refusal> {
     match exports::load_sparse(file, image) {
         0 => Ok(()),
-        number => Err(Refusal::new(number as usize, 0)),
+        number => Err(Refusal::new(number as usize, 0, 0)),
     }
 }

@@ -36,7 +36,7 @@ pub struct Fields {
     pub at: usize,
     /// Bytes written so far of a `new`.
     pub into: usize,
-    /// What every later call repeats, if its number is not 0.
+    /// What every later call repeats as it is, if its number is not 0.
     pub refusal: Refusal,
     /// The list's length at opening, in bytes.
     pub list: usize,
@@ -59,7 +59,7 @@ impl State {
     pub fn refusal(&self) -> Option<Refusal> {
         match self.raw.progress.refusal {
             exports::Refusal { number: 0, .. } => None,
-            exports::Refusal { number, line } => Some(Refusal::new(number, line)),
+            exports::Refusal { number, line, byte } => Some(Refusal::new(number, line, byte)),
         }
     }
 
@@ -78,7 +78,7 @@ impl State {
             line,
             at,
             into,
-            refusal: Refusal::new(refusal.number, refusal.line),
+            refusal: Refusal::new(refusal.number, refusal.line, refusal.byte),
             list: lengths.list,
             lengths: Lengths { image: lengths.image, stash: lengths.stash, work: lengths.work, result: lengths.result, patch: lengths.patch },
         }
@@ -93,7 +93,7 @@ impl From<&Fields> for State {
             line: *line,
             at: *at,
             into: *into,
-            refusal: exports::Refusal { number: refusal.number(), line: refusal.line() },
+            refusal: exports::Refusal { number: refusal.number(), line: refusal.line(), byte: refusal.raw_byte() },
             lengths: exports::Lengths {
                 list: *list,
                 image: lengths.image,

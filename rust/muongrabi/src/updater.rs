@@ -37,7 +37,7 @@ impl<'a> Updater<'a> {
     /// // Moves block 0 to block 1, if its hash is the one of a block of `a`.
     /// let hash: String = digest(&[b'a'; BLOCK]).iter().map(|byte| format!("{byte:02x}")).collect();
     /// let list = format!("3\n1\n0\n0\nmove {hash} 2,1,2 1 2,0,1\n");
-    /// for (block, expected) in [(b'a', Outcome::Done), (b'b', Outcome::Refused(Refusal::new(Refusal::HASH_DIFFERS, 5)))] {
+    /// for (block, expected) in [(b'a', Outcome::Done), (b'b', Outcome::Refused(Refusal::new(Refusal::HASH_DIFFERS, 5, 0)))] {
     ///     let mut image = vec![0; 2 * BLOCK];
     ///     image[..BLOCK].fill(block);
     ///     let areas = Areas { image: &mut image, stash: &mut [], work: &mut [0; BLOCK], result: &mut [], patch: &[] };

@@ -52,7 +52,7 @@ fn abi() {
         assert!(text.contains(&declared), "{declared}");
     }
     // The layout that goes with the number.
-    assert_eq!((number, ["state", "progress", "export_answer"].map(size_asserted)), ("3", ["7264", "96", "128"]));
+    assert_eq!((number, ["state", "progress", "export_answer"].map(size_asserted)), ("4", ["7272", "104", "144"]));
 }
 
 #[test]
@@ -115,7 +115,7 @@ fn refusal_numbers() {
 
 /// What the number means, in the crate's words.
 fn text(number: usize) -> &'static str {
-    Refusal::new(number, 0).text()
+    Refusal::new(number, 0, 0).text()
 }
 
 #[test]
@@ -180,10 +180,22 @@ fn each_text_is_of_its_number() {
 
 #[test]
 fn words() {
-    assert_eq!(Refusal::new(Refusal::LIST_LENGTH, 0).to_string(), "the list is longer than 4194304 bytes (refusal 2)");
-    assert_eq!(Refusal::new(Refusal::OTHER_VERSION, 1).to_string(), "line 1: the list's version is not 3 (refusal 4)");
-    assert_eq!(Refusal::new(Refusal::SPARSE_PAST_IMAGE, 0).to_string(), "a chunk of the sparse file ends past the image (refusal 34)");
-    assert_eq!(Refusal::new(99, 7).to_string(), "line 7: a number that no rule gives (refusal 99)");
+    assert_eq!(Refusal::new(Refusal::LIST_LENGTH, 0, 0).to_string(), "the list is longer than 4194304 bytes (refusal 2)");
+    assert_eq!(Refusal::new(Refusal::OTHER_VERSION, 1, 0).to_string(), "line 1: the list's version is not 3 (refusal 4)");
+    assert_eq!(Refusal::new(Refusal::SPARSE_PAST_IMAGE, 0, 0).to_string(), "a chunk of the sparse file ends past the image (refusal 34)");
+    assert_eq!(Refusal::new(99, 7, 0).to_string(), "line 7: a number that no rule gives (refusal 99)");
+    // A byte with 3 and 6, be it 0, and with no other number, whatever is held.
+    let words = "a header line is missing, is no number from 0 to 4294967295 in plain digits, or has no line feed (refusal 3)";
+    assert_eq!(Refusal::new(Refusal::HEADER_FORM, 1, 0).to_string(), format!("line 1, byte 0 of the list: {words}"));
+    let words = "the line is not a command: its word is unknown, or its form is wrong (refusal 6)";
+    assert_eq!(Refusal::new(Refusal::LINE_FORM, 14, 217).to_string(), format!("line 14, byte 217 of the list: {words}"));
+    assert_eq!(Refusal::new(Refusal::OTHER_VERSION, 1, 5).to_string(), "line 1: the list's version is not 3 (refusal 4)");
+    for number in 0..=Refusal::SPARSE_END + 1 {
+        let with_byte = [Refusal::HEADER_FORM, Refusal::LINE_FORM].contains(&number);
+        assert_eq!(Refusal::new(number, 2, 217).byte(), with_byte.then_some(217), "{number}");
+        assert_eq!(Refusal::new(number, 2, 217).to_string().contains("217"), with_byte, "{number}");
+        assert_eq!(Refusal::new(number, 2, 217).raw_byte(), 217);
+    }
 }
 
 /// The fields of a struct of Rust, or of the proved source, in their order.

@@ -42,12 +42,12 @@ fn each_chunk_is_loaded() {
 #[test]
 fn nothing_loads_into_nothing() {
     assert_eq!(load_sparse(&file(0, &[]), &mut []), Ok(()));
-    assert_eq!(load_sparse(&[], &mut []), Err(Refusal::new(Refusal::SPARSE_HEADER, 0)));
-    assert_eq!(load_sparse(&file(1, &[]), &mut []), Err(Refusal::new(Refusal::SPARSE_IMAGE, 0)));
+    assert_eq!(load_sparse(&[], &mut []), Err(Refusal::new(Refusal::SPARSE_HEADER, 0, 0)));
+    assert_eq!(load_sparse(&file(1, &[]), &mut []), Err(Refusal::new(Refusal::SPARSE_IMAGE, 0, 0)));
 }
 
 #[test]
-fn a_refusal_has_its_number_and_no_line() {
+fn a_refusal_has_its_number_no_line_and_no_byte() {
     let raw = some_bytes(BLOCK);
     let good = file(2, &[(RAW, 1, &raw), (FILL, 1, b"abcd")]);
     let other = |at: usize, byte: u8| {
@@ -67,7 +67,7 @@ fn a_refusal_has_its_number_and_no_line() {
         let before = some_bytes(2 * BLOCK);
         let mut image = before.clone();
         let refusal = load_sparse(&bytes, &mut image).expect_err("a bad file");
-        assert_eq!((refusal.number(), refusal.line()), (number, 0));
+        assert_eq!((refusal, refusal.byte()), (Refusal::new(number, 0, 0), None));
         assert_eq!(refusal.to_string(), format!("{} (refusal {number})", refusal.text()));
         assert!(image == before, "{number}");
     }

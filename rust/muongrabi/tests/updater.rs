@@ -113,13 +113,13 @@ fn every_field_crosses_as_itself() {
         stash.blocks = 1_000 + k;
     }
     (fields.count, fields.line, fields.at, fields.into) = (1, 2, 3, 4);
-    (fields.refusal, fields.list) = (Refusal::new(0, 6), 7);
+    (fields.refusal, fields.list) = (Refusal::new(0, 6, 13), 7);
     fields.lengths = Lengths { image: 8, stash: 9, work: 10, result: 11, patch: 12 };
     let mut state = State::from(&fields);
     assert_eq!(state.refusal(), None);
     // It fits nothing, and comes back as it was.
     let mut lent = Lent::new();
-    let refused = Called { outcome: Outcome::Refused(Refusal::new(Refusal::STATE_IMPOSSIBLE, 0)), taken: 0 };
+    let refused = Called { outcome: Outcome::Refused(Refusal::new(Refusal::STATE_IMPOSSIBLE, 0, 0)), taken: 0 };
     assert_eq!(call(b"3\n0\n0\n0\n", lent.areas(), b"piece", &mut state), refused);
     assert_eq!(state.fields(), fields);
     assert_eq!(lent.letters(), ["ABCDEFGH", "x", "uvw", "rs"]);
@@ -134,12 +134,14 @@ fn every_field_crosses_as_itself() {
     assert!(!shown.contains("blocks: 1001"), "{shown}");
     fields.count = usize::MAX;
     assert!(format!("{:?}", State::from(&fields)).contains("blocks: 1255"));
-    // A refusal that is held is repeated, and the state stays as it was.
-    fields.refusal = Refusal::new(99, 6);
-    let mut state = State::from(&fields);
-    assert_eq!(state.refusal(), Some(Refusal::new(99, 6)));
-    assert_eq!(call(b"", lent.areas(), b"", &mut state).outcome, Outcome::Refused(Refusal::new(99, 6)));
-    assert_eq!(state.fields(), fields);
+    // A refusal that is held is repeated as it is, its byte too, and the state stays as it was.
+    for refusal in [Refusal::new(99, 6, 5), Refusal::new(Refusal::LINE_FORM, 0, usize::MAX), Refusal::new(Refusal::HASH_DIFFERS, 9, 1)] {
+        fields.refusal = refusal;
+        let mut state = State::from(&fields);
+        assert_eq!(state.refusal(), Some(refusal));
+        assert_eq!(call(b"", lent.areas(), b"", &mut state).outcome, Outcome::Refused(refusal));
+        assert_eq!(state.fields(), fields);
+    }
     assert_eq!(lent.letters(), ["ABCDEFGH", "x", "uvw", "rs"]);
 }
 
@@ -180,20 +182,50 @@ fn a_state_is_changed_where_it_lies_and_nothing_beside_it() {
 fn refusals_stop_a_run_and_stay() {
     let list = format!("3\n2\n0\n0\nnew 2,0,1\nmove {} 2,1,2 1 2,2,3\n", name("A"));
     let mut lent = Lent::new();
-    let refused = Outcome::Refused(Refusal::new(Refusal::HASH_DIFFERS, 6));
+    let refused = Outcome::Refused(Refusal::new(Refusal::HASH_DIFFERS, 6, 0));
     let mut updater = Updater::open(list.as_bytes(), lent.areas()).expect("a good list");
     assert_eq!(updater.write(&blocks("pq")), refused);
     assert_eq!(updater.taken(), BLOCK as u64);
     assert_eq!(updater.write(&blocks("pq")), refused);
-    assert_eq!((updater.taken(), updater.state().refusal()), (BLOCK as u64, Some(Refusal::new(16, 6))));
+    assert_eq!((updater.taken(), updater.state().refusal()), (BLOCK as u64, Some(Refusal::new(16, 6, 0))));
     assert_eq!(lent.letters(), ["pBCDEFGH", "x", "Cvw", "rs"]);
     // A refused opening changes nothing.
     let mut lent = Lent::new();
     let opened = Updater::open(b"3\n10\n0\n0\nnew 2,0,1\nzero 2,0,9\n", lent.areas()).map(|_| ());
-    assert_eq!(opened, Err(Refusal::new(Refusal::PAST_IMAGE, 6)));
+    assert_eq!(opened, Err(Refusal::new(Refusal::PAST_IMAGE, 6, 0)));
     let (called, state) = run(b"3\n10\n0\n0\nnew 2,0,1\nzero 2,0,9\n", lent.areas(), &blocks("p"), &[]);
-    assert_eq!(called, Called { outcome: Outcome::Refused(Refusal::new(8, 6)), taken: 0 });
-    assert_eq!((state.refusal(), state.line(), state.fields().list), (Some(Refusal::new(8, 6)), 0, 0));
+    assert_eq!(called, Called { outcome: Outcome::Refused(Refusal::new(8, 6, 0)), taken: 0 });
+    assert_eq!((state.refusal(), state.line(), state.fields().list), (Some(Refusal::new(8, 6, 0)), 0, 0));
+    assert_eq!(lent.letters(), ["ABCDEFGH", "x", "uvw", "rs"]);
+}
+
+#[test]
+fn an_ill_formed_line_has_its_byte() {
+    let lengths = Lengths { image: 8 * BLOCK, stash: 0, work: 0, result: 0, patch: 0 };
+    for (list, refusal) in [
+        ("", Refusal::new(Refusal::HEADER_FORM, 1, 0)),
+        ("3\n0\n", Refusal::new(Refusal::HEADER_FORM, 3, 4)),
+        ("3\n0\n00\n0\n", Refusal::new(Refusal::HEADER_FORM, 3, 5)),
+        ("3\n0\n0\n0\nzero 2,0,1\nzap\n", Refusal::new(Refusal::LINE_FORM, 6, 20)),
+        ("3\n0\n0\n0\nzero 2,5,3\n", Refusal::new(Refusal::LINE_FORM, 5, 18)),
+        ("3\n0\n0\n0\nzero 2,0,1", Refusal::new(Refusal::LINE_FORM, 5, 18)),
+    ] {
+        assert_eq!(open(list.as_bytes(), lengths), Err(refusal), "{list:?}");
+        assert_eq!(refusal.byte(), Some(refusal.raw_byte()));
+        let mut image = blocks("ABCDEFGH");
+        let areas = Areas { image: &mut image, stash: &mut [], work: &mut [], result: &mut [], patch: &[] };
+        let (called, state) = run(list.as_bytes(), areas, b"", &[]);
+        assert_eq!((called.outcome, state.refusal()), (Outcome::Refused(refusal), Some(refusal)), "{list:?}");
+    }
+    // In a call, of a line altered since opening; and it stays.
+    let mut lent = Lent::new();
+    let state = open(b"3\n1\n0\n0\nzero 2,0,1\n", lent.areas().lengths()).expect("a good list");
+    let mut updater = Updater::resume(b"3\n1\n0\n0\nzero 3,0,1\n", lent.areas(), state);
+    let refusal = Refusal::new(Refusal::LINE_FORM, 5, 14);
+    for _ in 0..2 {
+        assert_eq!(updater.write(b"data"), Outcome::Refused(refusal));
+        assert_eq!(updater.state().refusal(), Some(refusal));
+    }
     assert_eq!(lent.letters(), ["ABCDEFGH", "x", "uvw", "rs"]);
 }
 
@@ -206,7 +238,7 @@ fn areas_of_other_lengths_are_refused() {
         let state = open(list, lent.areas().lengths()).expect("a good list");
         change(&mut lent);
         let mut updater = Updater::resume(list, lent.areas(), state.clone());
-        assert_eq!(updater.write(&blocks("p")), Outcome::Refused(Refusal::new(17, 0)));
+        assert_eq!(updater.write(&blocks("p")), Outcome::Refused(Refusal::new(17, 0, 0)));
         // 17 is not kept.
         assert_eq!(updater.into_state(), state);
     }
@@ -215,11 +247,11 @@ fn areas_of_other_lengths_are_refused() {
 #[test]
 fn patches_are_refused_as_they_are() {
     let line = |from: usize, bytes: usize, after: &str| format!("3\n1\n0\n0\nbsdiff {from} {bytes} {} {} 2,5,6 1 2,5,6\n", name("F"), name(after));
-    let refused = |number| Outcome::Refused(Refusal::new(number, 5));
+    let refused = |number| Outcome::Refused(Refusal::new(number, 5, 0));
     // One byte past the patch data, a byte short, and another result.
     let mut lent = Lent::new();
     let opened = Updater::open(line(3, BLOCK + 27, "G").as_bytes(), lent.areas()).map(|_| ());
-    assert_eq!(opened, Err(Refusal::new(Refusal::PAST_PATCH, 5)));
+    assert_eq!(opened, Err(Refusal::new(Refusal::PAST_PATCH, 5, 0)));
     for (list, number, work, result) in [
         (line(3, BLOCK + 25, "G"), Refusal::PATCH_MALFORMED, "Fvw", "rs"),
         (line(2, BLOCK + 26, "G"), Refusal::PATCH_MALFORMED, "Fvw", "rs"),
@@ -236,7 +268,7 @@ fn patches_are_refused_as_they_are() {
 fn outcomes_in_words() {
     assert_eq!(Outcome::Done.to_string(), "done");
     assert_eq!(Outcome::More.to_string(), "more new data is needed");
-    assert_eq!(Outcome::Refused(Refusal::new(4, 1)).to_string(), "refused: line 1: the list's version is not 3 (refusal 4)");
+    assert_eq!(Outcome::Refused(Refusal::new(4, 1, 0)).to_string(), "refused: line 1: the list's version is not 3 (refusal 4)");
 }
 
 #[cfg(feature = "std")]
@@ -294,7 +326,7 @@ mod io {
         let mut lent = Lent::new();
         let mut updater = Updater::open(list.as_bytes(), lent.areas()).expect("a good list");
         assert_eq!(Write::write(&mut updater, &blocks("pq")).expect("the new is taken"), BLOCK);
-        let refusal = Refusal::new(Refusal::HASH_DIFFERS, 6);
+        let refusal = Refusal::new(Refusal::HASH_DIFFERS, 6, 0);
         for error in [Write::write(&mut updater, &blocks("q")).map(|_| ()), updater.flush()] {
             let error = error.expect_err("the line is refused");
             assert_eq!((error.kind(), error.to_string()), (ErrorKind::InvalidData, refusal.to_string()));

@@ -11,13 +11,14 @@ use lib.ListN.{length, drop, length-drop, length-append}
 use lib.Seq.{take-length}
 use lib.Dec.{leb, eqb}
 use borrow.Author.Tests.{eq-eqb, ne-eqb, leb-true, leb-false, le-leb}
-use Rattle.text.specs.Choice.{pick, both, either, no}
+use Rattle.text.specs.Choice.{pick, both, no}
 use Rattle.text.specs.Expected.{lf, space, comma, colon, dash}
 use Rattle.text.specs.Line.{lineOf, lineAt}
 use Rattle.text.specs.Number.{isDigit, then, isCount}
 use Rattle.text.specs.Hash.{hashBytes}
 use Rattle.text.specs.Below.{AllBelow}
-use Rattle.text.proofs.ChoiceLaws.{both-true, no-true}
+use Rattle.text.proofs.ChoiceLaws.{both-true, either-true, no-true}
+use Rattle.text.proofs.NumberLaws.{digit-low, digit-high}
 use Rattle.command.specs.Words.{spelling}
 use Rattle.command.specs.declared.word.RangeWord.the-variants as range
 use Rattle.command.specs.declared.word.HashWord.the-variants as hash
@@ -65,9 +66,7 @@ plain-within : (b : ℕ) → 48 ≤ b → b ≤ 127 → isPlain b ≡ true
 plain-within b l h = rw (ne-eqb b lf (λ (z : b ≡ lf). omega (arith, l, z)), le-leb b 127 h)
 
 digit-on : (b : ℕ) → isDigit b ≡ true → isPlain b ≡ true
-digit-on b e =
-    let d = both-true (leb 48 b) (leb b 57) e in
-    plain-within b (leb-true 48 b (d .0)) (omega (arith, leb-true b 57 (d .1)))
+digit-on b e = plain-within b (digit-low b e) (omega (arith, digit-high b e))
 
 digits-ends : (test : ℕ → Bool) (K : ℕ → Language) → ((v : ℕ) → Ends (K v)) → (v : ℕ) → Ends (Digits test K v)
 unfolding Digits
@@ -81,13 +80,11 @@ number-ends test K k [] d = absurd d
 number-ends test K k (b ∷ t) d = line-on b t (digit-on b (d .0)) (digits-ends test K k (b - 48) t (d .1))
 
 hex-on : (b : ℕ) → isHexDigit b ≡ true → isPlain b ≡ true
-hex-on b = go (isDigit b) refl
-  where
-    go : (p : Bool) → isDigit b ≡ p → either p (both (leb 97 b) (leb b 102)) ≡ true → isPlain b ≡ true
-    go true d h = digit-on b d
-    go false d h =
-        let l = both-true (leb 97 b) (leb b 102) h in
-        plain-within b (omega (arith, leb-true 97 b (l .0))) (omega (arith, leb-true b 102 (l .1)))
+hex-on b e =
+    ⊎-elim (digit-on b)
+    (λ h. let l = both-true (leb 97 b) (leb b 102) h in
+    plain-within b (omega (arith, leb-true 97 b (l .0))) (omega (arith, leb-true b 102 (l .1))))
+    (either-true (isDigit b) (both (leb 97 b) (leb b 102)) e)
 
 hex-ends : {K : Language} → Ends K → Ends (HexDigit K)
 unfolding HexDigit

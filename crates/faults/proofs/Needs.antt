@@ -2,8 +2,8 @@
 -- only then is `need-holds` of text.)
 -- Assumes nothing.
 use mathlib.Core.Path.{_≡_, refl, _∙_, subst}
-use mathlib.Core.Bool.{Bool, true, false}
-use mathlib.Core.Logic.{_⊎_, inl, inr, ⊎-elim}
+use mathlib.Core.Bool.{true}
+use mathlib.Core.Logic.{⊎-elim}
 use Prim.Native.Nat.{ℕ, zero, suc, _+_, _*_, _/_, _%_, _≤_, _<_, max}
 use native.Mathlib.Omega.{arith}
 use mathlib.Core.List.{List, [], _∷_}
@@ -12,13 +12,9 @@ use borrow.Author.Tests.{leb-true, ltb-true, le-leb, eq-eqb, eqb-true}
 use Rattle.text.specs.Choice.{either}
 use Rattle.text.specs.Number.{largest, digitsMost, isDigit, then, isCount, meets, reaches, canMeet}
 use Rattle.text.specs.declared.number.Need.the-variants as need
-use Rattle.text.proofs.ChoiceLaws.{both-true, both-is, either-or-false}
+use Rattle.text.proofs.ChoiceLaws.{both-true, both-is, either-true, either-or-false}
 use Rattle.text.proofs.NeedLaws.{Written, last, more, need-holds}
 use Rattle.faults.proofs.Numbers.{Exact}
-
-either-true : (t u : Bool) → either t u ≡ true → (t ≡ true) ⊎ (u ≡ true)
-either-true true u e = inl refl
-either-true false u e = inr e
 
 -- ---- any number
 

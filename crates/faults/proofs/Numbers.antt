@@ -17,6 +17,7 @@ use Rattle.text.specs.declared.number.Need.{Need}
 use Rattle.text.specs.declared.number.Number.{Number}
 use Rattle.text.specs.declared.number.Number.the-variants.{Good, Bad}
 use Rattle.text.proofs.ChoiceLaws.{picks, both-true, both-is}
+use Rattle.text.proofs.NumberLaws.{digit-low}
 use Rattle.text.proofs.NeedLaws.{Written, last, more, digit-most, need-holds}
 use Rattle.faults.specs.Language.{Language, GoesOn, Finding, fault}
 use Rattle.faults.specs.Lines.{Digits, NumberThat}
@@ -27,7 +28,7 @@ pub clash : {t : Bool} → t ≡ true → t ≡ false → ⊥
 clash e f = let z : _≡_ {A = ℕ} 0 1 = cc in omega arith
 
 digit-no-lf : (b : ℕ) → isDigit b ≡ true → eqb b lf ≡ false
-digit-no-lf b e = ne-eqb b lf (λ h. omega (arith, leb-true 48 b (both-true (leb 48 b) (leb b 57) e .0)))
+digit-no-lf b e = ne-eqb b lf (λ h. omega (arith, digit-low b e))
 
 -- ---- how a number is written
 

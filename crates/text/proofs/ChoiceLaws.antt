@@ -60,6 +60,14 @@ pub either-either : (a b c : Bool) → either (either a b) c ≡ either a (eithe
 either-either true b c = refl
 either-either false b c = refl
 
+pub either-is : (a : Bool) {b : Bool} → b ≡ true → either a b ≡ true
+either-is true e = refl
+either-is false e = e
+
+pub either-true : (a b : Bool) → either a b ≡ true → (a ≡ true) ⊎ (b ≡ true)
+either-true true b e = inl refl
+either-true false b e = inr e
+
 pub either-false : (a b : Bool) → either a b ≡ false → (a ≡ false) × (b ≡ false)
 either-false true b e = absurd (let z : _≡_ {A = ℕ} 0 1 = cc in omega arith)
 either-false false b e = (refl, e)

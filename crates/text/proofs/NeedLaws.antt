@@ -9,13 +9,14 @@ use mathlib.Core.List.{List, [], _∷_}
 use lib.ListN.{drop}
 use lib.Dec.{leb, ltb, eqb}
 use borrow.Author.Tests.{leb-true, ltb-true, le-leb, lt-ltb}
-use Rattle.text.specs.Choice.{pick, both, either}
+use Rattle.text.specs.Choice.{pick, both}
 use Rattle.text.specs.Number.{largest, digitsMost, isDigit, then, isCount, meets, reaches, canMeet, endOf, digits, numberFrom, numberFor, numberAt}
 use Rattle.text.specs.declared.number.Need.{Need}
 use Rattle.text.specs.declared.number.Need.the-variants as need
 use Rattle.text.specs.declared.number.Number.{Number}
 use Rattle.text.specs.declared.number.Number.the-variants.{Good, Bad}
-use Rattle.text.proofs.ChoiceLaws.{both-true, both-is}
+use Rattle.text.proofs.ChoiceLaws.{both-true, both-is, either-is}
+use Rattle.text.proofs.NumberLaws.{digit-high}
 
 -- ---- how a number is written
 
@@ -25,11 +26,7 @@ pub data Written : ℕ → ℕ → List ℕ → List ℕ → Type 0 where
   more : {v w b : ℕ} {s t : List ℕ} → isDigit b ≡ true → 0 < v → then v b ≤ largest → Written (then v b) w s t → Written v w (b ∷ s) t
 
 pub digit-most : (b : ℕ) → isDigit b ≡ true → b - 48 ≤ 9
-digit-most b e = omega (arith, leb-true b 57 (both-true (leb 48 b) (leb b 57) e .1))
-
-pub either-is : (t : Bool) {u : Bool} → u ≡ true → either t u ≡ true
-either-is true e = refl
-either-is false e = e
+digit-most b e = omega (arith, digit-high b e)
 
 -- ---- a number that is asked for begins with these digits
 

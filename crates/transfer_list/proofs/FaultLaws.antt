@@ -72,7 +72,7 @@ line-length (b ∷ t) (suc k) h e n = go (eqb b lf) n (λ m. line-length t k (om
     go true m f = absurd (omega arith)
     go false m f = ap suc (f m)
 
--- a line that nothing is refused of is good
+-- what is found of a command that is not refused
 unrefused-good : (at : ℕ) (l : List ℕ) (terms : Terms) (held : List Stash) (hash : List ℕ) (c : Command) →
     refusalFor l terms held hash c ≡ none → findingAt at c ≡ good
 unfolding refusalFor findingAt
@@ -163,7 +163,8 @@ module _ (s : List ℕ) where
       go (number.Good w i) h = ended w (expectedAt s i lf) h
       go (number.Bad q) h = absurd (let z : _≡_ {A = ℕ} 0 1 = cc in omega arith)
 
-  command-line-good : (at : ℕ) (terms : Terms) (held : List Stash) → refusalOf (lineAt s at) terms held ≡ none → CommandLine (lineAt s at)
+  -- a line that is not refused is good
+  pub command-line-good : (at : ℕ) (terms : Terms) (held : List Stash) → refusalOf (lineAt s at) terms held ≡ none → CommandLine (lineAt s at)
   unfolding refusalOf
   command-line-good at terms held e =
       let l = lineAt s at in
@@ -320,8 +321,8 @@ module _ (s : List ℕ) where
       go (header.Good h) e = let f = first-start e in lines-report (suc (length s)) (termsOf lengths h) h firstLine (h .first) [] 0 (omega arith) (f .0) (f .1)
       go (header.Bad line byte) e = plain-reports s none 0 refl
 
-  -- the refusal that an opening's state holds: 3 and 6 name a line that is not good, and report the first byte at which no good line could go
-  -- on; every other number reports no byte
+  -- the refusal that an opening's state holds: 3 and 6 name the first line that is not good, and report the first byte at which no good line
+  -- could go on; every other number reports no byte
   pub opening-reports : (lengths : Lengths) → Reports s (openState s lengths .refusal)
   unfolding openState acceptedState refusedState
   opening-reports lengths =

@@ -37,7 +37,7 @@
 extern "C" {
 #endif
 
-#define MUONGRABI_VERSION "0.6.0"
+#define MUONGRABI_VERSION "0.7.0"
 #define MUONGRABI_ABI 4   /* another number whenever what the archive exports changes: the layout of a struct or the parameters of a function */
 
 /* Limits, 64 bits wide, so that blocks times bytes do not wrap. */
@@ -58,8 +58,9 @@ extern "C" {
  *
  * With 3 and 6 comes a byte of the list, counted from 0: the first one at which no good line could go on. What could still have followed
  * decides, so that it is not always where the mistake was made: an odd count is wrong at the comma behind it, since a digit more could have made
- * it even. It may be the line's LF; where the list ends too soon, or a header line is absent, it is the list's length. Good here is every line
- * that none of 3, 6 and 7 would be given for. With all other numbers the byte is 0, which with 3 is the list's first.
+ * it even, and the empty range of `2,8,8` behind its end, which could have become 80. It may be the line's LF; where the list ends too soon, or a
+ * header line is absent, it is the list's length. Good here is every line that none of 3, 6 and 7 would be given for. With all other numbers the
+ * byte is 0, which with 3 is the list's first.
  *
  * An opening gives 1 to 15 and 18, and looks at no block and at no patch. A call gives 6 to 14 and 16 to 19, and repeats the refusal that
  * its state holds. On the list that was opened, with the state as each call left it and areas and patch data of the same lengths, it gives 16
@@ -71,7 +72,7 @@ enum muongrabi_refusal_number {
     MUONGRABI_REFUSAL_HEADER_FORM = 3,       /* header line absent, ill formed or without LF */
     MUONGRABI_REFUSAL_OTHER_VERSION = 4,     /* version not 3; line 1 */
     MUONGRABI_REFUSAL_HEADER_LIMIT = 5,      /* line 3 over 256; else line 4 over the stash area */
-    MUONGRABI_REFUSAL_LINE_FORM = 6,         /* command line ill formed, or its word unknown */
+    MUONGRABI_REFUSAL_LINE_FORM = 6,         /* command line ill formed, as by a range whose end is not above its start, or its word unknown */
     MUONGRABI_REFUSAL_UNSUPPORTED = 7,       /* first word imgdiff, whatever follows */
     MUONGRABI_REFUSAL_PAST_IMAGE = 8,        /* a range of target or image source ends past the image */
     MUONGRABI_REFUSAL_PAST_AREA = 9,         /* N, or an image source, larger than the work area; bsdiff's target than the result area */

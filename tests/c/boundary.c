@@ -188,7 +188,7 @@ static size_t make_list(void)
     name_of("s", s);
     return (size_t)snprintf(list, sizeof list,
         "3\n13\n2\n3\nstash %s 2,0,2\nstash %s 2,7,8\nnew 4,0,1,6,7\nmove %s 2,1,4 3 2,2,5\nmove %s 2,4,6 2 - %s:4,1,2,0,1\n"
-        "move %s 4,7,8,2,4 3 4,0,1,6,7 4,0,1,2,3 %s:2,1,2\nfree %s\nzero 4,1,2,8,8\nerase 2,6,7\nnew 2,5,6\n"
+        "move %s 4,7,8,2,4 3 4,0,1,6,7 4,0,1,2,3 %s:2,1,2\nfree %s\nzero 2,1,2\nerase 2,6,7\nnew 2,5,6\n"
         "bsdiff 0 %zu %s %s 2,7,8 1 2,5,6\n",
         ab, h, cde, ba, ab, phq, h, ab, patch_length, r, s);
 }
@@ -414,7 +414,7 @@ static void patches(void)
 static void nothing_lent(void)
 {
     static const char *empty = "3\n0\n0\n0\n";
-    static const char *some = "3\n1\n256\n0\nzero 2,0,0\nnew 2,0,0\nnew 2,0,1\n";
+    static const char *some = "3\n3\n256\n0\nzero 2,0,1\nnew 2,0,1\nnew 2,0,1\n";
     lot none = new_lot(0);
     for (int behind = 0; behind < 2; behind++) {
         const uint8_t *l = lay(&list_lot, empty, strlen(empty), behind, 1);
@@ -431,7 +431,7 @@ static void nothing_lent(void)
     }
 
     static uint8_t image[BLOCK];
-    size_t borders[] = {0, 1, 4, 5, 6, 7, 8, 9, 19, 20, 30, 40, 64, 65, 255, 256, 257, 4095, 4096, 4097, (size_t)1 << 63, SIZE_MAX - 4095, SIZE_MAX - 1, SIZE_MAX};
+    size_t borders[] = {0, 1, 4, 5, 6, 7, 8, 10, 20, 21, 31, 41, 64, 65, 255, 256, 257, 4095, 4096, 4097, (size_t)1 << 63, SIZE_MAX - 4095, SIZE_MAX - 1, SIZE_MAX};
     size_t many = sizeof borders / sizeof *borders;
     int good = 1;
     const uint8_t *l = lay(&list_lot, some, strlen(some), 1, 1);
@@ -479,6 +479,9 @@ static void faults(void)
         {"3\n0\n0\n0\nzero 3,0,1\n", {6, 5, 14}},
         {"3\n0\n0\n0\nzero 2,5,3\n", {6, 5, 18}},
         {"3\n0\n0\n0\nzero 2,5,0\n", {6, 5, 17}},
+        {"3\n0\n0\n0\nzero 2,0,0\n", {6, 5, 17}},
+        {"3\n0\n0\n0\nzero 2,1,1\n", {6, 5, 18}},
+        {"3\n0\n0\n0\nnew 4,0,1,1,1\n", {6, 5, 21}},
         {"3\n0\n0\n0\nzero 2,0,1", {6, 5, 18}},
         {"3\n0\n0\n0\nzero 2,0,\x80\n", {6, 5, 17}},
         {"3\n1\n0\n0\nzero 2,0,1\nzero 2,0,1 \n", {6, 6, 29}},

@@ -23,9 +23,9 @@ unfoldable pub hashField : List ℕ → ℕ → Hash
 hashField l at = onExpected (expectedAt l at space) (hashAt l) (λ p. record { read = expected.Bad p; bytes = noHash })
 
 -- a range set
-unfoldable pub setField : List ℕ → ℕ → Ranges
-setField l at = onExpected (expectedAt l at space) (rangesAt l) ranges.Bad
+unfoldable pub setField : ℕ → List ℕ → ℕ → Ranges
+setField least l at = onExpected (expectedAt l at space) (rangesAt least l) ranges.Bad
 
 -- a range set and the line's LF
-unfoldable pub lastSet : List ℕ → ℕ → Ranges
-lastSet l at = onRanges (setField l at) (λ set i. onExpected (expectedAt l i lf) (ranges.Good set) ranges.Bad) ranges.Bad
+unfoldable pub lastSet : ℕ → List ℕ → ℕ → Ranges
+lastSet least l at = onRanges (setField least l at) (λ set i. onExpected (expectedAt l i lf) (ranges.Good set) ranges.Bad) ranges.Bad

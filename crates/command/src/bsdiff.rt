@@ -1,6 +1,7 @@
 // A line of `bsdiff`: O, B, H, T, and what a `move` has after its hash.
 ghost use mathlib.Core.Path.{_≡_};
 ghost use Rattle.text.specs.Expected.{onExpected};
+ghost use Rattle.ranges.specs.Ranges.{leastBlocks};
 ghost use Rattle.command.specs.declared.Command.the-variants.{Bad};
 ghost use Rattle.command.specs.Commands.{digestFrom, patchedLine, lengthLine, bsdiffLine};
 use crate::Command;
@@ -15,7 +16,7 @@ use text::number::Number;
 
 // T, after H.
 fn read_digest(l: &[u8], at: usize) -> Command
-    ensures { λ r. ⌜ r ≡ digestFrom (now (l .entry)) at ⌝ }
+    ensures { λ r. ⌜ r ≡ digestFrom leastBlocks (now (l .entry)) at ⌝ }
 {
     let t = read_hash_field(l, at);
     let read = t.read;
@@ -27,7 +28,7 @@ fn read_digest(l: &[u8], at: usize) -> Command
 
 // What follows H, where there is one.
 fn after_source_hash(l: &[u8], read: Expected) -> Command
-    ensures { λ r. ⌜ r ≡ onExpected read (digestFrom (now (l .entry))) Bad ⌝ }
+    ensures { λ r. ⌜ r ≡ onExpected read (digestFrom leastBlocks (now (l .entry))) Bad ⌝ }
 {
     match read {
         Expected::Bad(p) => Command::Bad(p),
@@ -37,7 +38,7 @@ fn after_source_hash(l: &[u8], read: Expected) -> Command
 
 // H, after O and B.
 fn patched_line(l: &[u8], at: usize) -> Line
-    ensures { λ r. ⌜ r ≡ patchedLine (now (l .entry)) at ⌝ }
+    ensures { λ r. ⌜ r ≡ patchedLine leastBlocks (now (l .entry)) at ⌝ }
 {
     let h = read_hash_field(l, at);
     let hash = h.bytes;
@@ -50,7 +51,7 @@ fn patched_line(l: &[u8], at: usize) -> Line
 
 // B, after O.
 fn length_line(l: &[u8], at: usize) -> Line
-    ensures { λ r. ⌜ r ≡ lengthLine (now (l .entry)) at ⌝ }
+    ensures { λ r. ⌜ r ≡ lengthLine leastBlocks (now (l .entry)) at ⌝ }
 {
     match read_number_field(l, at) {
         Number::Bad(p) => without_hash(Command::Bad(p)),
@@ -59,7 +60,7 @@ fn length_line(l: &[u8], at: usize) -> Line
 }
 
 pub(crate) fn bsdiff_line(l: &[u8]) -> Line
-    ensures { λ r. ⌜ r ≡ bsdiffLine (now (l .entry)) ⌝ }
+    ensures { λ r. ⌜ r ≡ bsdiffLine leastBlocks (now (l .entry)) ⌝ }
 {
     match read_number_field(l, b"bsdiff".len()) {
         Number::Bad(p) => without_hash(Command::Bad(p)),

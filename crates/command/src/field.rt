@@ -1,6 +1,8 @@
 // Fields of a line, each with the space before it.
 ghost use mathlib.Core.Path.{_≡_};
+ghost use Rattle.ranges.specs.Ranges.{leastBlocks};
 ghost use Rattle.command.specs.Fields.{numberField, hashField, setField, lastSet};
+use ranges::LEAST_BLOCKS;
 use ranges::Ranges;
 use ranges::read_ranges;
 use text::expected::Expected;
@@ -12,11 +14,11 @@ use text::number::Number;
 use text::number::read_number;
 
 pub(crate) fn read_set_field(l: &[u8], at: usize) -> Ranges
-    ensures { λ r. ⌜ r ≡ setField (now (l .entry)) at ⌝ }
+    ensures { λ r. ⌜ r ≡ setField leastBlocks (now (l .entry)) at ⌝ }
 {
     match read_expected(l, at, b' ') {
         Expected::Bad(p) => Ranges::Bad(p),
-        Expected::Past(i) => read_ranges(l, i),
+        Expected::Past(i) => read_ranges(l, i, LEAST_BLOCKS),
     }
 }
 
@@ -44,7 +46,7 @@ pub(crate) fn read_number_field(l: &[u8], at: usize) -> Number
 
 // A range set that is the line's last field.
 pub(crate) fn read_last_set(l: &[u8], at: usize) -> Ranges
-    ensures { λ r. ⌜ r ≡ lastSet (now (l .entry)) at ⌝ }
+    ensures { λ r. ⌜ r ≡ lastSet leastBlocks (now (l .entry)) at ⌝ }
 {
     match read_set_field(l, at) {
         Ranges::Bad(p) => Ranges::Bad(p),

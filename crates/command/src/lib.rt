@@ -1,7 +1,7 @@
 // A line of a transfer list, read as a command.
 ghost use mathlib.Core.Path.{_≡_};
 ghost use Rattle.text.specs.Expected.{onExpected};
-ghost use Rattle.ranges.specs.Ranges.{onRanges};
+ghost use Rattle.ranges.specs.Ranges.{leastBlocks, onRanges};
 ghost use Rattle.command.specs.declared.Command.the-variants.{Bad};
 ghost use Rattle.command.specs.Commands.{stashFrom, freeFrom, afterHash, withSet, plain, hashedLine, rangeLine, commandOf};
 use crate::bsdiff::bsdiff_line;
@@ -59,7 +59,7 @@ pub struct Line {
 }
 
 fn read_stash(l: &[u8], at: usize) -> Command
-    ensures { λ r. ⌜ r ≡ stashFrom (now (l .entry)) at ⌝ }
+    ensures { λ r. ⌜ r ≡ stashFrom leastBlocks (now (l .entry)) at ⌝ }
 {
     match read_last_set(l, at) {
         Ranges::Bad(p) => Command::Bad(p),
@@ -78,7 +78,7 @@ fn read_free(l: &[u8], at: usize) -> Command
 
 // What follows the hash, by the word.
 fn after_hash(l: &[u8], word: HashWord, read: Expected) -> Command
-    ensures { λ r. ⌜ r ≡ onExpected read (afterHash (now (l .entry)) word) Bad ⌝ }
+    ensures { λ r. ⌜ r ≡ onExpected read (afterHash leastBlocks (now (l .entry)) word) Bad ⌝ }
 {
     match read {
         Expected::Bad(p) => Command::Bad(p),
@@ -114,7 +114,7 @@ pub(crate) fn without_hash(command: Command) -> Line
 
 // `move`, `stash` and `free`: a word, a hash, and what follows it.
 fn hashed_line(l: &[u8], word: HashWord) -> Line
-    ensures { λ r. ⌜ r ≡ hashedLine (now (l .entry)) word ⌝ }
+    ensures { λ r. ⌜ r ≡ hashedLine leastBlocks (now (l .entry)) word ⌝ }
 {
     let h = read_hash_field(l, word.len());
     let hash = h.bytes;
@@ -127,14 +127,14 @@ fn hashed_line(l: &[u8], word: HashWord) -> Line
 
 // `zero`, `erase` and `new`: a word and a range set.
 fn range_line(l: &[u8], word: RangeWord) -> Line
-    ensures { λ r. ⌜ r ≡ rangeLine (now (l .entry)) word ⌝ }
+    ensures { λ r. ⌜ r ≡ rangeLine leastBlocks (now (l .entry)) word ⌝ }
 {
     without_hash(with_set(word, read_last_set(l, word.len())))
 }
 
 // The command of a line that is handed over as its part of the text.
 pub fn read_command(l: &[u8]) -> Line
-    ensures { λ r. ⌜ r ≡ commandOf (now (l .entry)) ⌝ }
+    ensures { λ r. ⌜ r ≡ commandOf leastBlocks (now (l .entry)) ⌝ }
 {
     match word_of(l) {
         Word::Ranges(word) => range_line(l, word),

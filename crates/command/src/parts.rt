@@ -1,6 +1,8 @@
 // The stashes that a source names, each as `H:L`.
 ghost use mathlib.Core.Path.{_≡_};
+ghost use Rattle.ranges.specs.Ranges.{leastBlocks};
 ghost use Rattle.command.specs.Parts.{partEnd, placesFrom, partAt, partsAt, partsField};
+use ranges::LEAST_BLOCKS;
 use ranges::RangeSet;
 use ranges::Ranges;
 use ranges::read_ranges;
@@ -40,8 +42,8 @@ fn read_part_end(l: &[u8], places: RangeSet, i: usize) -> PartRead
     }
 }
 
-fn read_places(l: &[u8], at: usize) -> PartRead
-    ensures { λ r. ⌜ r ≡ placesFrom (now (l .entry)) at ⌝ }
+fn read_places(l: &[u8], at: usize, least: u32) -> PartRead
+    ensures { λ r. ⌜ r ≡ placesFrom least (now (l .entry)) at ⌝ }
 {
     let i = match read_expected(l, at, b':') {
         Expected::Past(i) => i,
@@ -49,14 +51,15 @@ fn read_places(l: &[u8], at: usize) -> PartRead
             return PartRead::Bad(p);
         }
     };
-    match read_ranges(l, i) {
+    match read_ranges(l, i, least) {
         Ranges::Bad(p) => PartRead::Bad(p),
         Ranges::Good(places, j) => read_part_end(l, places, j),
     }
 }
 
-pub fn read_part(l: &[u8], at: usize) -> Part
-    ensures { λ r. ⌜ r ≡ partAt (now (l .entry)) at ⌝ }
+// One `H:L`; each range of its places has at least so many blocks.
+pub fn read_part(l: &[u8], at: usize, least: u32) -> Part
+    ensures { λ r. ⌜ r ≡ partAt least (now (l .entry)) at ⌝ }
 {
     let h = read_hash(l, at);
     let hash = h.bytes;
@@ -67,7 +70,7 @@ pub fn read_part(l: &[u8], at: usize) -> Part
             hash,
         },
         Expected::Past(i) => Part {
-            read: read_places(l, i),
+            read: read_places(l, i, least),
             hash,
         },
     }
@@ -75,11 +78,11 @@ pub fn read_part(l: &[u8], at: usize) -> Part
 
 // One or more to the line's end: checked here, and read again where they are used.
 pub(crate) fn check_parts(l: &[u8], first: usize) -> PartsRead
-    ensures { λ r. ⌜ r ≡ partsAt (now (l .entry)) first ⌝ }
+    ensures { λ r. ⌜ r ≡ partsAt leastBlocks (now (l .entry)) first ⌝ }
 {
     let mut at = first;
     loop {
-        let part = read_part(l, at);
+        let part = read_part(l, at, LEAST_BLOCKS);
         let read = part.read;
         match read {
             PartRead::Bad(p) => {
@@ -96,7 +99,7 @@ pub(crate) fn check_parts(l: &[u8], first: usize) -> PartsRead
 }
 
 pub(crate) fn read_parts_field(l: &[u8], at: usize) -> PartsRead
-    ensures { λ r. ⌜ r ≡ partsField (now (l .entry)) at ⌝ }
+    ensures { λ r. ⌜ r ≡ partsField leastBlocks (now (l .entry)) at ⌝ }
 {
     match read_expected(l, at, b' ') {
         Expected::Bad(p) => PartsRead::Bad(p),

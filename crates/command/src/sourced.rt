@@ -1,5 +1,6 @@
 // What a `move` and a `bsdiff` have in common: a target, N and a source.
 ghost use mathlib.Core.Path.{_≡_};
+ghost use Rattle.ranges.specs.Ranges.{leastBlocks};
 ghost use Rattle.command.specs.Commands.{commandFor, lengthFrom, targetFrom};
 use crate::Command;
 use crate::field::read_number_field;
@@ -36,7 +37,7 @@ fn command_for(purpose: Purpose, target: RangeSet, length: u32, source: Source) 
 
 // N and the source, after the target.
 fn read_length(l: &[u8], purpose: Purpose, target: RangeSet, at: usize) -> Command
-    ensures { λ r. ⌜ r ≡ lengthFrom (now (l .entry)) purpose target at ⌝ }
+    ensures { λ r. ⌜ r ≡ lengthFrom leastBlocks (now (l .entry)) purpose target at ⌝ }
 {
     match read_number_field(l, at) {
         Number::Bad(p) => Command::Bad(p),
@@ -48,7 +49,7 @@ fn read_length(l: &[u8], purpose: Purpose, target: RangeSet, at: usize) -> Comma
 }
 
 pub(crate) fn read_target(l: &[u8], purpose: Purpose, at: usize) -> Command
-    ensures { λ r. ⌜ r ≡ targetFrom (now (l .entry)) purpose at ⌝ }
+    ensures { λ r. ⌜ r ≡ targetFrom leastBlocks (now (l .entry)) purpose at ⌝ }
 {
     match read_set_field(l, at) {
         Ranges::Bad(p) => Command::Bad(p),

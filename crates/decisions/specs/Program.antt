@@ -5,6 +5,7 @@ use mathlib.Core.Bool.{Bool, false}
 use mathlib.Core.List.{List}
 use lib.Dec.{eqb, leb}
 use Rattle.text.specs.Choice.{pick, both, no}
+use Rattle.ranges.specs.Ranges.{leastBlocks}
 use Rattle.state.specs.Limits.{blockBytes}
 use Rattle.state.specs.Refusals.{areaSize, listLength}
 use Rattle.state.specs.States.{refusing, noRefusal}
@@ -54,7 +55,7 @@ sizeRefusal list image =
 
 -- the list is opened over areas of 3 blocks each, and patch data
 abbrev pub openedWith : List ℕ → ℕ → ℕ → State
-openedWith s image patch = openState s (lengthsOf s image areaBytes areaBytes areaBytes patch)
+openedWith s image patch = openState leastBlocks s (lengthsOf s image areaBytes areaBytes areaBytes patch)
 
 -- after a call with a piece of n bytes there is another where the list wants more, unless the piece was the data's end
 abbrev pub callsOn : Outcome → ℕ → Bool

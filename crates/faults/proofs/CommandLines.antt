@@ -13,6 +13,7 @@ use Rattle.text.specs.Choice.{pick, both, either, no}
 use Rattle.text.specs.Expected.{space, lf}
 use Rattle.text.specs.Word.{isFirstWord}
 use Rattle.text.proofs.ChoiceLaws.{picks, both-true, either-false, no-true}
+use Rattle.ranges.specs.Ranges.{leastBlocks}
 use Rattle.command.specs.Words.{spelling, goodWords, wordIn, shared, sharedMost, wordFault}
 use Rattle.command.specs.Commands.{lineBy, commandOf}
 use Rattle.command.specs.declared.word.RangeWord.the-variants as range
@@ -191,10 +192,10 @@ All P (w ∷ ws) = P w × All P ws
 
 module _ (l : List ℕ) where
   abbrev Says : Word → Type 0
-  Says w = Reads CommandLine 0 (seen isLf l) (findingAt 0 (lineBy l w .command))
+  Says w = Reads CommandLine 0 (seen isLf l) (findingAt 0 (lineBy leastBlocks l w .command))
 
   kind-found : (w : Word) → GoodWord w →
-      Reads (Kind w) 0 (seen isLf l) (pick (isFirstWord (spelling w) l) (findingAt 0 (lineBy l w .command)) (fault (shared (spelling w) l)))
+      Reads (Kind w) 0 (seen isLf l) (pick (isFirstWord (spelling w) l) (findingAt 0 (lineBy leastBlocks l w .command)) (fault (shared (spelling w) l)))
   kind-found w g = word-found (spelling w) l 0 (spelt w g .plain) (rest-spaced w) (omega arith) (omega arith) (rest-found l w g)
 
   -- a word of a good line: no line of another word starts as this one
@@ -249,7 +250,7 @@ module _ (l : List ℕ) where
       (λ n. word-by-word ws us (gs .1) (λ ns. f ((gs .0, n), ns)))
 
   -- of the line that any bytes begin with
-  pub line-found : Reads CommandLine 0 (seen isLf l) (findingAt 0 (commandOf l .command))
+  pub line-found : Reads CommandLine 0 (seen isLf l) (findingAt 0 (commandOf leastBlocks l .command))
   unfolding commandOf wordIn All
   line-found =
       word-by-word goodWords (word.Imgdiff ∷ []) (tt, (tt, (tt, (tt, (tt, (tt, (tt, tt)))))))

@@ -9,7 +9,7 @@ use native.Mathlib.Omega.{arith}
 use mathlib.Core.List.{List, [], _∷_, _++_, append-nil}
 use lib.ListN.{length, drop, length-drop, length-append}
 use lib.Seq.{take-length}
-use lib.Dec.{leb, eqb}
+use lib.Dec.{leb, ltb, eqb}
 use borrow.Author.Tests.{eq-eqb, ne-eqb, leb-true, leb-false, le-leb}
 use Rattle.text.specs.Choice.{pick, both, no}
 use Rattle.text.specs.Expected.{lf, space, comma, colon, dash}
@@ -100,7 +100,7 @@ pairs-ends : (n : ℕ) {K : Language} → Ends K → Ends (Pairs n K)
 unfolding Pairs
 pairs-ends zero k = k
 pairs-ends (suc n) k =
-    byte-ends comma refl (number-ends any _ (λ start. byte-ends comma refl (number-ends (λ end. leb start end) _ (λ end. pairs-ends n k))))
+    byte-ends comma refl (number-ends any _ (λ start. byte-ends comma refl (number-ends (λ end. ltb start end) _ (λ end. pairs-ends n k))))
 
 set-ends : {K : Language} → Ends K → Ends (RangeSet K)
 unfolding RangeSet

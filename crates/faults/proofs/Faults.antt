@@ -10,7 +10,7 @@ use lib.ListN.{length, drop}
 use Rattle.text.specs.Expected.{expectedAt, onExpected, lf}
 use Rattle.text.specs.Number.{numberAt, onNumber}
 use Rattle.text.specs.Line.{lineAt}
-use Rattle.ranges.specs.Ranges.{rangesAt, onRanges}
+use Rattle.ranges.specs.Ranges.{leastBlocks, rangesAt, onRanges}
 use Rattle.ranges.specs.declared.Ranges.the-variants as ranges
 use Rattle.command.specs.Commands.{commandOf}
 use Rattle.command.specs.declared.Command.{Command}
@@ -47,17 +47,17 @@ in-text L at s (Stash set) f = f
 in-text L at s Free f = f
 
 -- the command line that starts at position `at` of the text
-pub command-found : (s : List ℕ) (at : ℕ) → Found CommandLine at (lineAt s at) (findingAt at (commandOf (lineAt s at) .command))
+pub command-found : (s : List ℕ) (at : ℕ) → Found CommandLine at (lineAt s at) (findingAt at (commandOf leastBlocks (lineAt s at) .command))
 unfolding lineAt
 command-found s at =
-    in-text CommandLine at (lineAt s at) (commandOf (lineAt s at) .command)
-    (subst (λ l. Found CommandLine 0 l (findingAt 0 (commandOf (lineAt s at) .command))) own (line-found (lineAt s at) .found))
+    in-text CommandLine at (lineAt s at) (commandOf leastBlocks (lineAt s at) .command)
+    (subst (λ l. Found CommandLine 0 l (findingAt 0 (commandOf leastBlocks (lineAt s at) .command))) own (line-found (lineAt s at) .found))
   where
     own : seen isLf (lineAt s at) ≡ lineAt s at
     own = sym (line-seen (lineAt s at)) ∙ line-line (drop at s)
 
 -- a fault lies within the bytes that were read, whatever these are, or where they end
-pub fault-within : (l : List ℕ) {p : ℕ} → commandOf l .command ≡ Bad p → p ≤ length l
+pub fault-within : (l : List ℕ) {p : ℕ} → commandOf leastBlocks l .command ≡ Bad p → p ≤ length l
 unfolding findingAt
 fault-within l {p} e =
     let f : FirstFault CommandLine 0 (seen isLf l) (0 + p) =
@@ -78,10 +78,10 @@ header-found s at = rw (line-seen (drop at s)) (number-then s end _ end-apart (�
 -- ---- range sets that stand alone: `RangeSet End` are the texts that are a range set and nothing more
 
 pub set-found : (s : List ℕ) (at : ℕ) →
-    Found (RangeSet End) at (drop at s) (onRanges (rangesAt s at) (λ set next. ended (drop next s) next) fault)
+    Found (RangeSet End) at (drop at s) (onRanges (rangesAt leastBlocks s at) (λ set next. ended (drop next s) next) fault)
 unfolding End ended
 set-found s at =
-    subst (λ t. Found (RangeSet End) at t (onRanges (rangesAt s at) (λ set next. ended (drop next s) next) fault)) (all-seen (drop at s))
+    subst (λ t. Found (RangeSet End) at t (onRanges (rangesAt leastBlocks s at) (λ set next. ended (drop next s) next) fault)) (all-seen (drop at s))
     (sets.set-found never (λ b n. refl) s at End (λ b t e l. l) (λ r. onRanges r (λ set next. ended (drop next s) next) fault) (λ p. refl)
     (λ set next h. over (drop next s) next) at (omega arith) .found)
   where
@@ -90,6 +90,6 @@ set-found s at =
     over (b ∷ t) next = fault-here (seen never (b ∷ t)) ([], tt) (λ u l. l)
 
 -- .. so a fault that the reader of a set reports is the first
-pub set-fault : (s : List ℕ) (at : ℕ) {p : ℕ} → rangesAt s at ≡ ranges.Bad p → FirstFault (RangeSet End) at (drop at s) p
+pub set-fault : (s : List ℕ) (at : ℕ) {p : ℕ} → rangesAt leastBlocks s at ≡ ranges.Bad p → FirstFault (RangeSet End) at (drop at s) p
 set-fault s at e =
     subst (λ r. Found (RangeSet End) at (drop at s) (onRanges r (λ set next. ended (drop next s) next) fault)) e (set-found s at)

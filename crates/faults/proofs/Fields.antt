@@ -13,7 +13,7 @@ use Rattle.text.specs.declared.number.Number.{Number}
 use Rattle.text.specs.declared.number.Number.the-variants as number
 use Rattle.text.specs.Hash.{hashAt, noHash}
 use Rattle.text.specs.declared.hash.Hash as hashes
-use Rattle.ranges.specs.Ranges.{rangesAt, onRanges}
+use Rattle.ranges.specs.Ranges.{leastBlocks, rangesAt, onRanges}
 use Rattle.ranges.specs.declared.RangeSet as sets
 use Rattle.ranges.specs.declared.Ranges.{Ranges}
 use Rattle.ranges.specs.declared.Ranges.the-variants as ranges
@@ -88,7 +88,7 @@ module _ (l : List ℕ) {A : Type 0} (e : Ending A) where
 
   pub set-then : {K : Language} {at : ℕ} (g : sets.RangeSet → ℕ → A) → Apart K →
       ((set : sets.RangeSet) (next : ℕ) → at ≤ next → At l K next (e .of (g set next))) →
-      At l (RangeSet K) at (e .of (onRanges (rangesAt l at) g (e .bad)))
+      At l (RangeSet K) at (e .of (onRanges (rangesAt leastBlocks l at) g (e .bad)))
   set-then {K} {at} g apart x = set-found isLf (λ b n. n) l at K apart (λ r. e .of (onRanges r g (e .bad))) (e .is) x at (omega arith)
 
   pub hash-then : {K : Language} {at : ℕ} (g : ℕ → A) → ((next : ℕ) → at ≤ next → At l K next (e .of (g next))) →
@@ -110,9 +110,9 @@ module _ (l : List ℕ) {A : Type 0} (e : Ending A) where
 
   pub set-field : {K : Language} {at : ℕ} (g : sets.RangeSet → ℕ → A) → Apart K →
       ((set : sets.RangeSet) (next : ℕ) → At l K next (e .of (g set next))) →
-      At l (Byte space (RangeSet K)) at (e .of (onRanges (setField l at) g (e .bad)))
+      At l (Byte space (RangeSet K)) at (e .of (onRanges (setField leastBlocks l at) g (e .bad)))
   unfolding setField
-  set-field g apart x = space-then l (after-set e g) (rangesAt l) (λ i. set-then l e g apart (λ set next h. x set next))
+  set-field g apart x = space-then l (after-set e g) (rangesAt leastBlocks l) (λ i. set-then l e g apart (λ set next h. x set next))
 
   pub hash-field : {K : Language} {at : ℕ} (g : ℕ → A) → ((next : ℕ) → At l K next (e .of (g next))) →
       At l (lines.Hashed K) at (e .of (onExpected (hashField l at .read) g (e .bad)))
@@ -121,6 +121,6 @@ module _ (l : List ℕ) {A : Type 0} (e : Ending A) where
 
 -- a set and the line's end
 pub last-set : (l : List ℕ) {A : Type 0} (e : Ending A) {at : ℕ} (g : sets.RangeSet → ℕ → A) →
-    ((set : sets.RangeSet) (next : ℕ) → e .of (g set next) ≡ good) → At l LastSet at (e .of (onRanges (field.lastSet l at) g (e .bad)))
+    ((set : sets.RangeSet) (next : ℕ) → e .of (g set next) ≡ good) → At l LastSet at (e .of (onRanges (field.lastSet leastBlocks l at) g (e .bad)))
 unfolding field.lastSet LastSet
 last-set l e g fine = set-field l (after-set e g) _ end-apart (λ set i. end-then l (after-set e g) _ (fine set))

@@ -13,7 +13,7 @@ use Rattle.text.specs.Choice.{either}
 use Rattle.text.specs.Number.{largest, digitsMost, isDigit, then, isCount, meets, reaches, canMeet}
 use Rattle.text.specs.declared.number.Need.the-variants as need
 use Rattle.text.proofs.ChoiceLaws.{both-true, both-is, either-true, either-or-false}
-use Rattle.text.proofs.NeedLaws.{Written, last, more, need-holds}
+use Rattle.text.proofs.NeedLaws.{Written, last, more, written-above, need-holds}
 use Rattle.faults.proofs.Numbers.{Exact}
 
 -- ---- any number
@@ -22,6 +22,12 @@ pub any-exact : Exact need.Any
 unfolding meets canMeet
 any-exact =
     record { digit = 48; is-digit = refl; starts = refl; grows = λ v l e. (v, [], last, refl) }
+
+-- ---- a number up to another
+
+pub most-exact : (high : ℕ) → Exact (need.AtMost high)
+unfolding meets canMeet
+most-exact high = record { digit = 48; is-digit = refl; starts = le-leb 0 high (omega arith); grows = λ v l e. (v, [], last, e) }
 
 -- ---- a count: an odd number takes a zero more, if there is room
 
@@ -59,10 +65,6 @@ unfolding lowest highest
 in-order zero v = omega arith
 in-order (suc j) v = omega (arith, in-order j v)
 
-above : {v w : ℕ} {s t : List ℕ} → Written v w s t → v ≤ w
-above last = omega arith
-above (more d p m x) = omega (arith, above x)
-
 -- one digit more is read
 longer : {v w b : ℕ} {s t : List ℕ} → Written v w s (b ∷ t) → isDigit b ≡ true → 0 < w → then w b ≤ largest → Written v (then w b) s t
 longer last d p m = more d p m last
@@ -78,7 +80,7 @@ write (suc j) v w t p l h m =
     let x = write j v (w / 10) ((48 + w % 10) ∷ t) p (omega arith) (omega arith) (omega arith) in
     let e : then (w / 10) (48 + w % 10) ≡ w = omega arith in (
       x .0,
-      subst (λ w. Written v w (x .0) t) e (longer (x .1) (digit-of (w % 10) (omega arith)) (omega (arith, above (x .1))) (omega arith)),
+      subst (λ w. Written v w (x .0) t) e (longer (x .1) (digit-of (w % 10) (omega arith)) (omega (arith, written-above (x .1))) (omega arith)),
     )
 
 module _ (low : ℕ) where

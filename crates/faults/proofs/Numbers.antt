@@ -32,7 +32,7 @@ digit-no-lf b e = ne-eqb b lf (λ h. omega (arith, digit-low b e))
 
 -- ---- how a number is written
 
-written-most : {v w : ℕ} {s t : List ℕ} → Written v w s t → v ≤ largest → w ≤ largest
+pub written-most : {v w : ℕ} {s t : List ℕ} → Written v w s t → v ≤ largest → w ≤ largest
 written-most last l = l
 written-most (more d p m x) l = written-most x m
 
@@ -57,6 +57,16 @@ module _ (test : ℕ → Bool) (K : ℕ → Language) where
   written-of v [] d = (v, [], last, d .0, d .1)
   written-of v (b ∷ s) (inl d) = (v, b ∷ s, last, d .0, d .1)
   written-of v (b ∷ s) (inr d) = let x = written-of (then v b) s (d .3) in (x .0, x .1, more (d .0) (d .1) (d .2) (x .2), x .3, x .4)
+
+-- a number of one language is one of another, if it passes that one's test and what follows it may follow there
+pub number-to : {test other : ℕ → Bool} {K L : ℕ → Language} →
+    ((w : ℕ) (t : List ℕ) → w ≤ largest → test w ≡ true → K w t → (other w ≡ true) × L w t) → (s : List ℕ) → NumberThat test K s → NumberThat other L s
+unfolding NumberThat
+number-to to [] d = d
+number-to {test} {other} {K} {L} to (b ∷ s) d =
+    let x = written-of test K (b - 48) s (d .1) in
+    let y = to (x .0) (x .1) (written-most (x .2) (omega (arith, digit-most b (d .0)))) (x .3) (x .4) in
+    (d .0, digits-of other L (x .2) (y .0) (y .1))
 
 -- ---- what is asked of a need
 

@@ -7,10 +7,11 @@ use Prim.Native.Nat.{ℕ, zero, suc, _+_, _-_, _/_, _≤_}
 use native.Mathlib.Omega.{arith}
 use mathlib.Core.List.{List, [], _∷_}
 use lib.ListN.{length, drop-of-length-le}
-use lib.Dec.{leb}
+use lib.Dec.{ltb}
 use Rattle.text.specs.Expected.{space, lf, comma, colon}
 use Rattle.text.specs.Number.{isCount}
 use Rattle.text.specs.Hash.{hashBytes}
+use Rattle.ranges.specs.Ranges.{leastBlocks}
 use Rattle.command.specs.Parts.{partEnd, placesFrom, partAt, onPart, partsIn, partsAt, partsField, onParts}
 use Rattle.command.specs.declared.parts.PartRead.{PartRead}
 use Rattle.command.specs.declared.parts.PartRead.the-variants as read
@@ -66,7 +67,7 @@ pair-field K s d =
     let a = byte-field comma _ s d in
     let b = number-field any _ (a .0) (a .1) in
     let c = byte-field comma _ (b .1) (b .2) in
-    let e = number-field (λ end. leb (b .0) end) _ (c .0) (c .1) in
+    let e = number-field (λ end. ltb (b .0) end) _ (c .0) (c .1) in
     (e .1, e .2, λ L l. a .2 _ (b .3 _ (c .2 _ (e .3 (λ end. L) l))))
 
 pairs-field : (n : ℕ) → Field (Pairs n)
@@ -133,12 +134,12 @@ module _ (l : List ℕ) {A : Type 0} (e : Ending A) (g : ℕ → A) (first : ℕ
   abbrev after-part : ℕ → Ending PartRead
   after-part n =
       record {
-        of = λ r. whole (onPart r (λ places next. partsIn n l first next) (λ places. parts.Good first) parts.Bad);
+        of = λ r. whole (onPart r (λ places next. partsIn leastBlocks n l first next) (λ places. parts.Good first) parts.Bad);
         bad = read.Bad;
         is = e .is;
       }
 
-  parts-found : (n at : ℕ) → length l ≤ n + at → At l Parts at (whole (partsIn n l first at))
+  parts-found : (n at : ℕ) → length l ≤ n + at → At l Parts at (whole (partsIn leastBlocks n l first at))
   unfolding partsIn partAt placesFrom partEnd
   parts-found zero at h =
       rw (drop-of-length-le l (let k : length l ≤ at = omega arith in k), e .is at) (fault-here [] parts-alive parts-some)
@@ -153,8 +154,8 @@ module _ (l : List ℕ) {A : Type 0} (e : Ending A) (g : ℕ → A) (first : ℕ
 
 -- a space and one P or more, to the line's end
 pub parts-field : (l : List ℕ) {A : Type 0} (e : Ending A) {at : ℕ} (g : ℕ → A) → ((first : ℕ) → e .of (g first) ≡ good) →
-    At l (Byte space Parts) at (e .of (onParts (partsField l at) g (e .bad)))
+    At l (Byte space Parts) at (e .of (onParts (partsField leastBlocks l at) g (e .bad)))
 unfolding partsField partsAt
 parts-field l e g fine =
-    space-then l (record { of = λ r. e .of (onParts r g (e .bad)); bad = parts.Bad; is = e .is }) (partsAt l)
+    space-then l (record { of = λ r. e .of (onParts r g (e .bad)); bad = parts.Bad; is = e .is }) (partsAt leastBlocks l)
     (λ i. parts-found l e g i (fine i) (suc (length l)) i (omega arith))

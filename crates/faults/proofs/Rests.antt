@@ -7,6 +7,7 @@ use native.Mathlib.Omega.{arith}
 use mathlib.Core.List.{List}
 use lib.ListN.{length}
 use Rattle.text.specs.Expected.{space, lf, dash}
+use Rattle.ranges.specs.Ranges.{leastBlocks}
 use Rattle.ranges.specs.declared.RangeSet as sets
 use Rattle.command.specs.Words.{spelling}
 use Rattle.command.specs.Commands.{afterDash, withPlaces, afterBlocks, sourceFrom, sourceField, onSource, commandFor, lengthFrom, targetFrom}
@@ -48,7 +49,7 @@ module _ (l : List ℕ) {A : Type 0} (e : Ending A) (g : sources.Source → A) (
   abbrev after-source : Ending SourceRead
   after-source = record { of = λ r. e .of (onSource r g (e .bad)); bad = source.Bad; is = e .is }
 
-  pub source-field : {at : ℕ} → At l (Byte space Source) at (e .of (onSource (sourceField l at) g (e .bad)))
+  pub source-field : {at : ℕ} → At l (Byte space Source) at (e .of (onSource (sourceField leastBlocks l at) g (e .bad)))
   unfolding sourceField sourceFrom afterDash afterBlocks withPlaces Source
   source-field =
       space-then l after-source _
@@ -91,14 +92,14 @@ sourced-good purpose.Move target n s = refl
 sourced-good purpose.Bsdiff target n s = refl
 
 module _ (l : List ℕ) where
-  sourced-found : (p : Purpose) (at : ℕ) → At l Sourced at (findingAt 0 (targetFrom l p at))
+  sourced-found : (p : Purpose) (at : ℕ) → At l Sourced at (findingAt 0 (targetFrom leastBlocks l p at))
   unfolding Sourced targetFrom lengthFrom
   sourced-found p at =
       set-field l command _ (byte-apart space (Number (Byte space Source)) refl)
       (λ target i. number-field l command _ (byte-apart space Source refl)
       (λ n j. source-field l command (commandFor p target n) (sourced-good p target n)))
 
-  pub rest-found : (w : Word) → GoodWord w → At l (Rest w) (length (spelling w)) (findingAt 0 (lineBy l w .command))
+  pub rest-found : (w : Word) → GoodWord w → At l (Rest w) (length (spelling w)) (findingAt 0 (lineBy leastBlocks l w .command))
   unfolding Rest rangeLine hashedLine stashFrom freeFrom bsdiffLine lengthLine patchedLine digestFrom findingAt
   rest-found (word.Ranges w) a = last-set l command _ (λ set next. range-good w set)
   rest-found (word.Hash hash.Move) a = hash-field l command _ (sourced-found purpose.Move)

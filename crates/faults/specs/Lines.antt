@@ -1,4 +1,4 @@
--- Document 01, "The list text", and document 02, R-4 and R-6: which lines are good. Nothing here speaks of positions or of how a line is read. Length
+-- Document 01, "The list text", and document 02, R-4, R-6 and R-7: which lines are good. Nothing here speaks of positions or of how a line is read. Length
 -- limits, and refusals other than 3, 6 and 7, do not matter: a line of `imgdiff` is not good, a target past the image is.
 -- Assumes nothing: these are definitions.
 use Prim.Native.Nat.{ℕ, zero, suc, _-_, _/_, _≤_, _<_}
@@ -6,7 +6,7 @@ use mathlib.Core.Path.{_≡_}
 use mathlib.Core.Bool.{Bool, true}
 use mathlib.Core.Logic.{_⊎_}
 use mathlib.Core.List.{List, [], _∷_}
-use lib.Dec.{leb}
+use lib.Dec.{leb, ltb}
 use Rattle.text.specs.Choice.{both, either}
 use Rattle.text.specs.Expected.{space, lf, comma, colon, dash}
 use Rattle.text.specs.Number.{largest, isDigit, then, isCount}
@@ -54,10 +54,10 @@ Octets (suc n) K = HexDigit (HexDigit (Octets n K))
 abbrev pub Hash : Language → Language
 Hash = Octets hashBytes
 
--- ---- range sets: a count, even and at least 2, then that many numbers, all joined by commas; an end is not below its start
+-- ---- range sets: a count, even and at least 2, then that many numbers, all joined by commas; an end is above its start
 
 abbrev pub Pair : Language → Language
-Pair K = Byte comma (NumberThat any (λ start. Byte comma (NumberThat (λ end. leb start end) (λ end. K))))
+Pair K = Byte comma (NumberThat any (λ start. Byte comma (NumberThat (λ end. ltb start end) (λ end. K))))
 
 unfoldable pub Pairs : ℕ → Language → Language
 Pairs zero K = K

@@ -2,6 +2,7 @@
 ghost use mathlib.Core.Path.{_≡_};
 ghost use lib.ListN.{length};
 ghost use Rattle.sha1.specs.Sha1.{sha1};
+ghost use Rattle.ranges.specs.Ranges.{leastBlocks};
 ghost use Rattle.state.specs.States.{stateWith};
 ghost use Rattle.transfer_list.specs.Opening.{lengthsOf, openState};
 ghost use Rattle.updater.specs.Areas.{areasOf};
@@ -89,7 +90,7 @@ pub extern "C" fn muongrabi_open(
     result: usize,
     patch: usize,
 ) -> State
-    ensures { λ r. ⌜ r ≡ openState (now (list .entry)) (lengthsOf (now (list .entry)) image stash work result patch) ⌝ }
+    ensures { λ r. ⌜ r ≡ openState leastBlocks (now (list .entry)) (lengthsOf (now (list .entry)) image stash work result patch) ⌝ }
 {
     transfer_list::open(list, image, stash, work, result, patch)
 }
@@ -109,7 +110,7 @@ pub extern "C" fn muongrabi_call(
     sizes: &mut [usize; MOST_STASHES],
     progress: Progress,
 ) -> Answer
-    ensures { λ r. ⌜ answeredOf (areasOf (now (image .exit)) (now (stash .exit)) (now (work .exit)) (now (result .exit)) (now (patch .entry))) (now (hashes .exit)) (now (sizes .exit)) r ≡ answered (callOf (now (list .entry)) (now (piece .entry)) (configOf (areasOf (now (image .entry)) (now (stash .entry)) (now (work .entry)) (now (result .entry)) (now (patch .entry))) (stateWith (now (hashes .entry)) (now (sizes .entry)) progress))) ⌝ }
+    ensures { λ r. ⌜ answeredOf (areasOf (now (image .exit)) (now (stash .exit)) (now (work .exit)) (now (result .exit)) (now (patch .entry))) (now (hashes .exit)) (now (sizes .exit)) r ≡ answered (callOf leastBlocks (now (list .entry)) (now (piece .entry)) (configOf (areasOf (now (image .entry)) (now (stash .entry)) (now (work .entry)) (now (result .entry)) (now (patch .entry))) (stateWith (now (hashes .entry)) (now (sizes .entry)) progress))) ⌝ }
 {
     let called = call_in_place(
         list,

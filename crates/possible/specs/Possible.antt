@@ -55,22 +55,22 @@ hasMore terms n c =
     onNewTarget (newTarget c) (λ set. both (eqb (targetRefusal terms set) none) (ltb n (blockBytes * set .blocks))) false
 
 -- bytes into a `new` are 0, or the line is a good `new` with more bytes than that
-unfoldable pub canBeInto : List ℕ → Terms → ℕ → ℕ → Bool
-canBeInto s terms at into = either (eqb into 0) (hasMore terms into (commandOf (lineAt s at) .command))
+unfoldable pub canBeInto : ℕ → List ℕ → Terms → ℕ → ℕ → Bool
+canBeInto least s terms at into = either (eqb into 0) (hasMore terms into (commandOf least (lineAt s at) .command))
 
-unfoldable pub possibleUnder : List ℕ → Lengths → HeaderRead → State → Bool
-possibleUnder s lengths (header.Bad line byte) state = false
-possibleUnder s lengths (header.Good h) state =
+unfoldable pub possibleUnder : ℕ → List ℕ → Lengths → HeaderRead → State → Bool
+possibleUnder least s lengths (header.Bad line byte) state = false
+possibleUnder least s lengths (header.Good h) state =
     both (atLine s h (state .line) (state .at))
     (both (canHold h (tableOf state))
-    (canBeInto s (termsOf lengths h) (state .at) (state .into)))
+    (canBeInto least s (termsOf lengths h) (state .at) (state .into)))
 
 -- 17: a state is possible for this list and these lengths
-unfoldable pub isPossible : List ℕ → Lengths → State → Bool
-isPossible s lengths state =
+unfoldable pub isPossible : ℕ → List ℕ → Lengths → State → Bool
+isPossible least s lengths state =
     both (sameLengths (state .lengths) lengths)
     (both (eqb (startRefusal s lengths .number) none)
-    (possibleUnder s lengths (headerOf s) state))
+    (possibleUnder least s lengths (headerOf s) state))
 
 unfoldable pub termsUnder : Lengths → HeaderRead → Terms
 termsUnder lengths (header.Good h) = termsOf lengths h

@@ -1,6 +1,7 @@
 // States that a list can have with its areas and its patch data.
 ghost use mathlib.Core.Path.{_≡_};
 ghost use Prim.Native.Nat.{_-_};
+ghost use Rattle.ranges.specs.Ranges.{leastBlocks};
 ghost use Rattle.state.specs.States.{stateWith};
 ghost use Rattle.state.specs.Stashes.{tableAt};
 ghost use Rattle.possible.specs.Possible.{sameLengths, atLine, canHold, hasMore, canBeInto, isPossible, termsFor};
@@ -105,7 +106,7 @@ fn has_more(terms: Terms, n: usize, command: Command) -> bool
 }
 
 fn can_be_into(list: &[u8], terms: Terms, at: usize, into: usize) -> bool
-    ensures { λ r. ⌜ r ≡ canBeInto (now (list .entry)) terms at into ⌝ }
+    ensures { λ r. ⌜ r ≡ canBeInto leastBlocks (now (list .entry)) terms at into ⌝ }
 {
     if into == 0 {
         return true;
@@ -123,7 +124,7 @@ pub fn is_possible<'a>(
     sizes: &'a [usize; MOST_STASHES],
     progress: Progress,
 ) -> bool
-    ensures { λ r. ⌜ r ≡ isPossible (now (list .entry)) lengths (stateWith (now (hashes .entry)) (now (sizes .entry)) progress) ⌝ }
+    ensures { λ r. ⌜ r ≡ isPossible leastBlocks (now (list .entry)) lengths (stateWith (now (hashes .entry)) (now (sizes .entry)) progress) ⌝ }
 {
     let opened = progress.lengths;
     if !same_lengths(opened, lengths) {

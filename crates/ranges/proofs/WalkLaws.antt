@@ -22,23 +22,25 @@ use Rattle.ranges.specs.declared.Ranges.the-variants as ranges
 use Rattle.ranges.specs.declared.walk.Walk.{Walk}
 use Rattle.ranges.specs.declared.walk.Step.{Step}
 use Rattle.ranges.specs.declared.walk.Step.the-variants.{Block, Done}
-use Rattle.ranges.specs.Ranges.{Range, pairAt, onPair, ok, pairsAt, setAt, sizeOf, endOf, rangesAt, span, blocksOf}
+use Rattle.ranges.specs.Ranges.{leastAgain, Range, pairAt, onPair, ok, pairsAt, setAt, sizeOf, endOf, rangesAt, span, blocksOf}
 use Rattle.ranges.specs.Walk.{pairsOf, rangesOf, blocksAt, walkFrom, remaining, stepIn, stepOf, pastRange}
 pub use Rattle.text.proofs.BelowLaws.{below-head, below-tail, below-weaken, below-left, below-right}
 use Rattle.text.proofs.BelowLaws.{below-append}
-use Rattle.ranges.proofs.RangesLaws.{pair-next, pairs-good, set-good, ranges-good, ranges-next}
+use Rattle.ranges.proofs.RangesLaws.{pair-order, pair-next, pair-met, pairs-good, set-good, ranges-good, ranges-next}
 
 -- ---- the ranges of a good set, read again, are its ranges
-pairs-again : (n : ℕ) (s : List ℕ) (at : ℕ) {rs : List Range} {next : ℕ} → pairsAt n s at ≡ ok rs next → pairsOf n s at ≡ rs
+pairs-again : (least n : ℕ) (s : List ℕ) (at : ℕ) {rs : List Range} {next : ℕ} → pairsAt least n s at ≡ ok rs next → pairsOf n s at ≡ rs
 unfolding pairsAt pairsOf
-pairs-again zero s at e = cc
-pairs-again (suc n) s at e =
-    let p = pairs-good n s at e in
-    rw (p .first, pairs-again n s (p .middle) (p .then)) (sym (p .whole))
+pairs-again least zero s at e = cc
+pairs-again least (suc n) s at e =
+    let p = pairs-good least n s at e in
+    let l = pair-order least s at (p .first) in
+    rw (pair-met least s at (p .first) leastAgain (omega arith), pairs-again least n s (p .middle) (p .then)) (sym (p .whole))
 
-pub ranges-again : (s : List ℕ) (at : ℕ) {rs : List Range} {next : ℕ} → setAt s at ≡ ok rs next → rangesOf s at ≡ rs
+pub ranges-again : (least : ℕ) (s : List ℕ) (at : ℕ) {rs : List Range} {next : ℕ} → setAt least s at ≡ ok rs next → rangesOf s at ≡ rs
 unfolding rangesOf
-ranges-again s at e = let c = set-good s at e in rw (c .number) (pairs-again (c .count / 2) s (c .from) (c .pairs))
+ranges-again least s at e =
+    let c = set-good least s at e in rw (c .number) (pairs-again least (c .count / 2) s (c .from) (c .pairs))
 
 -- ---- how many blocks ranges have
 pub length-span : (start n : ℕ) → length (span start n) ≡ n
@@ -58,16 +60,16 @@ size-most [] m h = omega arith
 size-most (r ∷ rs) m h = rw suc-mul (omega (arith, size-most rs m (omega arith)))
 
 -- a pair takes at least one byte of the text
-pairs-most : (n : ℕ) (s : List ℕ) (at : ℕ) {rs : List Range} {next : ℕ} → pairsAt n s at ≡ ok rs next → at + length rs ≤ next
+pairs-most : (least n : ℕ) (s : List ℕ) (at : ℕ) {rs : List Range} {next : ℕ} → pairsAt least n s at ≡ ok rs next → at + length rs ≤ next
 unfolding pairsAt
-pairs-most zero s at {rs} {next} e =
+pairs-most least zero s at {rs} {next} e =
     let p : rs ≡ [] = cc in
     let q : at ≡ next = cc in
     rw p (omega arith)
-pairs-most (suc n) s at e =
-    let p = pairs-good n s at e in
-    let h = pair-next s at (p .first) in
-    let k = pairs-most n s (p .middle) (p .then) in
+pairs-most least (suc n) s at e =
+    let p = pairs-good least n s at e in
+    let h = pair-next least s at (p .first) in
+    let k = pairs-most least n s (p .middle) (p .then) in
     rw (p .whole) (omega arith)
 
 -- ---- all blocks are below n
@@ -88,25 +90,25 @@ below-same : {n m : ℕ} {xs ys : List ℕ} → n ≡ m → xs ≡ ys → AllBel
 below-same p q h = rw (p, q) h
 
 -- ---- of a good set
-module _ (s : List ℕ) (at : ℕ) {set : RangeSet} {next : ℕ} (e : rangesAt s at ≡ ranges.Good set next) where
-  set-ranges : rangesOf s at ≡ ranges-good s at e .ranges
-  set-ranges = ranges-again s at (ranges-good s at e .text)
+module _ (least : ℕ) (s : List ℕ) (at : ℕ) {set : RangeSet} {next : ℕ} (e : rangesAt least s at ≡ ranges.Good set next) where
+  set-ranges : rangesOf s at ≡ ranges-good least s at e .ranges
+  set-ranges = ranges-again least s at (ranges-good least s at e .text)
 
   pub set-blocks : length (blocksAt s at) ≡ set .blocks
   unfolding blocksAt
-  set-blocks = rw set-ranges (length-blocks (ranges-good s at e .ranges) ∙ sym (ranges-good s at e .blocks))
+  set-blocks = rw set-ranges (length-blocks (ranges-good least s at e .ranges) ∙ sym (ranges-good least s at e .blocks))
 
   pub set-below : AllBelow (set .end) (blocksAt s at)
   unfolding blocksAt
-  set-below = below-same (ranges-good s at e .end) (ap blocksOf set-ranges) (below-end (ranges-good s at e .ranges))
+  set-below = below-same (ranges-good least s at e .end) (ap blocksOf set-ranges) (below-end (ranges-good least s at e .ranges))
 
   -- a range takes at least one byte of the text, and has at most `end` blocks
   pub set-most : set .blocks ≤ length s * set .end
   set-most =
-      let k = ranges-good s at e in
-      let c = set-good s at (k .text) in
-      let h = pairs-most (c .count / 2) s (c .from) (c .pairs) in
-      let n = ranges-next s at e in
+      let k = ranges-good least s at e in
+      let c = set-good least s at (k .text) in
+      let h = pairs-most least (c .count / 2) s (c .from) (c .pairs) in
+      let n = ranges-next least s at e in
       let a = size-most (k .ranges) (set .end) (omega arith) in
       let few : length (k .ranges) ≤ length s = omega arith in
       let b = mul-le-mul-right (set .end) few in
@@ -136,7 +138,7 @@ step-tells zero s at block end = go (ltb block end) refl
         (pick t (Block block (record { at = at; left = 0; block = block + 1; end = end })) Done)
     go true e = rw (span-more block end (ltb-true block end e))
     go false e = rw (span-none block end (ltb-false block end e))
-step-tells (suc n) s at block end = go (ltb block end) refl (next (pairAt s at) (step-tells n s))
+step-tells (suc n) s at block end = go (ltb block end) refl (next (pairAt leastAgain s at) (step-tells n s))
   where
     next : (p : Pair) →
         ((at block end : ℕ) → Tells s (span block (end - block) ++ blocksOf (pairsOf n s at)) (stepIn n s at block end)) →
@@ -146,10 +148,10 @@ step-tells (suc n) s at block end = go (ltb block end) refl (next (pairAt s at) 
     next (pair.Bad p) h = refl
 
     go : (t : Bool) → ltb block end ≡ t →
-        Tells s (blocksOf (pairsOf (suc n) s at)) (onPair (pairAt s at) (λ a b i. stepIn n s i a b) (λ p. Done)) →
+        Tells s (blocksOf (pairsOf (suc n) s at)) (onPair (pairAt leastAgain s at) (λ a b i. stepIn n s i a b) (λ p. Done)) →
         Tells s (span block (end - block) ++ blocksOf (pairsOf (suc n) s at))
         (pick t (Block block (record { at = at; left = suc n; block = block + 1; end = end }))
-        (onPair (pairAt s at) (λ a b i. stepIn n s i a b) (λ p. Done)))
+        (onPair (pairAt leastAgain s at) (λ a b i. stepIn n s i a b) (λ p. Done)))
     go true e h = rw (span-more block end (ltb-true block end e))
     go false e h = rw (span-none block end (ltb-false block end e)) h
 

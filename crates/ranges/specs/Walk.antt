@@ -1,4 +1,4 @@
--- A range set read again from the text, block by block: it is never stored.
+-- A range set read again from the text, block by block: it is never stored. In bytes that nobody checked an empty range is passed over.
 -- Assumes nothing: these are definitions.
 use Prim.Native.Nat.{ℕ, zero, suc, _+_, _-_, _/_}
 use mathlib.Core.List.{List, [], _∷_, _++_}
@@ -6,7 +6,7 @@ use lib.Dec.{ltb}
 unfoldable pub use Rattle.text.specs.Below.{AllBelow}
 use Rattle.text.specs.Choice.{pick}
 use Rattle.text.specs.Number.{numberAt, onNumber}
-use Rattle.ranges.specs.Ranges.{Range, pairAt, onPair, span, blocksOf}
+use Rattle.ranges.specs.Ranges.{leastAgain, Range, pairAt, onPair, span, blocksOf}
 use Rattle.ranges.specs.declared.walk.Walk.{Walk}
 use Rattle.ranges.specs.declared.walk.Step.{Step}
 use Rattle.ranges.specs.declared.walk.Step.the-variants.{Block, Done}
@@ -14,7 +14,7 @@ use Rattle.ranges.specs.declared.walk.Step.the-variants.{Block, Done}
 -- the ranges of up to n pairs, those before a fault
 unfoldable pub pairsOf : ℕ → List ℕ → ℕ → List Range
 pairsOf zero s at = []
-pairsOf (suc n) s at = onPair (pairAt s at) (λ start end next. record { start = start; end = end } ∷ pairsOf n s next) (λ p. [])
+pairsOf (suc n) s at = onPair (pairAt leastAgain s at) (λ start end next. record { start = start; end = end } ∷ pairsOf n s next) (λ p. [])
 
 -- the ranges of the set that stands at a position; of a good one, all of them
 unfoldable pub rangesOf : List ℕ → ℕ → List Range
@@ -41,7 +41,7 @@ stepIn zero s at block end =
     pick (ltb block end) (Block block (record { at = at; left = 0; block = block + 1; end = end })) Done
 stepIn (suc n) s at block end =
     pick (ltb block end) (Block block (record { at = at; left = suc n; block = block + 1; end = end }))
-    (onPair (pairAt s at) (λ first past next. stepIn n s next first past) (λ p. Done))
+    (onPair (pairAt leastAgain s at) (λ first past next. stepIn n s next first past) (λ p. Done))
 
 unfoldable pub stepOf : List ℕ → Walk → Step
 stepOf s w = stepIn (w .left) s (w .at) (w .block) (w .end)

@@ -7,6 +7,15 @@ use text::number::read_number_for;
 
 pub mod walk;
 
+// A range of a list has at least one block.
+pub const LEAST_BLOCKS: u32 = 1;
+
+// A set that is read again was checked with its line.
+pub const LEAST_AGAIN: u32 = 0;
+
+// The largest number of a list.
+const LARGEST: u32 = 4294967295;
+
 // One range: the blocks from start up to, not including, end; and the position past it.
 pub enum Pair {
     Good { start: u32, end: u32, next: usize },
@@ -39,22 +48,26 @@ fn read_item(s: &[u8], at: usize, need: Need) -> Number
     read_number_for(s, at + 1, need)
 }
 
-// One range, with a comma before each of its numbers.
-pub fn read_pair(s: &[u8], at: usize) -> Pair
-    ensures { λ r. ⌜ r ≡ pairAt (now (s .entry)) at ⌝ }
+// One range of at least so many blocks, with a comma before each of its numbers.
+pub fn read_pair(s: &[u8], at: usize, least: u32) -> Pair
+    ensures { λ r. ⌜ r ≡ pairAt least (now (s .entry)) at ⌝ }
 {
-    match read_item(s, at, Need::Any) {
+    let most = LARGEST - least;
+    match read_item(s, at, Need::AtMost(most)) {
         Number::Bad(p) => Pair::Bad(p),
-        Number::Good(start, i) => match read_item(s, i, Need::AtLeast(start)) {
-            Number::Bad(p) => Pair::Bad(p),
-            Number::Good(end, next) => Pair::Good { start, end, next },
-        },
+        Number::Good(start, i) => {
+            let low = start + least;
+            match read_item(s, i, Need::AtLeast(low)) {
+                Number::Bad(p) => Pair::Bad(p),
+                Number::Good(end, next) => Pair::Good { start, end, next },
+            }
+        }
     }
 }
 
-// The whole set, checked and measured. Its fault is the first byte at which no range set could go on.
-pub fn read_ranges(s: &[u8], at: usize) -> Ranges
-    ensures { λ r. ⌜ r ≡ rangesAt (now (s .entry)) at ⌝ }
+// The whole set, checked and measured; each range has at least so many blocks. Its fault is the first byte at which no range set could go on.
+pub fn read_ranges(s: &[u8], at: usize, least: u32) -> Ranges
+    ensures { λ r. ⌜ r ≡ rangesAt least (now (s .entry)) at ⌝ }
 {
     match read_number_for(s, at, Need::Count) {
         Number::Bad(p) => Ranges::Bad(p),
@@ -64,7 +77,7 @@ pub fn read_ranges(s: &[u8], at: usize) -> Ranges
             let mut last: u32 = 0;
             let mut i = from;
             while 0 < left {
-                match read_pair(s, i) {
+                match read_pair(s, i, least) {
                     Pair::Bad(p) => {
                         return Ranges::Bad(p);
                     }

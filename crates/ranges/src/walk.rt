@@ -1,6 +1,7 @@
 // The blocks of a range set, one after the other, read again from the text.
 ghost use mathlib.Core.Path.{_≡_};
 ghost use Rattle.ranges.specs.Walk.{walkFrom, stepOf, pastRange};
+use crate::LEAST_AGAIN;
 use crate::Pair;
 use crate::read_pair;
 use text::number::Number;
@@ -51,7 +52,7 @@ pub fn next_block(s: &[u8], w: Walk) -> Step
         if left == 0 {
             return Step::Done;
         }
-        match read_pair(s, at) {
+        match read_pair(s, at, LEAST_AGAIN) {
             Pair::Bad(_) => {
                 return Step::Done;
             }

@@ -2,6 +2,7 @@
 ghost use mathlib.Core.Path.{_≡_};
 ghost use mathlib.Core.List.{List};
 ghost use Prim.Native.Nat.{ℕ};
+ghost use Rattle.ranges.specs.Ranges.{leastBlocks};
 ghost use Rattle.state.specs.Stashes.{tableAt, heldIn};
 ghost use Rattle.rules.specs.Rules.{targetRefusal, tooMuch, stashRefusal, freeRefusal, refusalFor, checkedOf};
 use crate::moves::check_bsdiff;
@@ -167,7 +168,7 @@ pub fn check_line<'a>(
     count: usize,
     marks: &mut [u8; MARK_BYTES],
 ) -> Checked
-    ensures { λ r. ⌜ r ≡ checkedOf (now (l .entry)) terms (heldIn (tableAt (now (hashes .entry)) (now (sizes .entry)) count)) ⌝ }
+    ensures { λ r. ⌜ r ≡ checkedOf leastBlocks (now (l .entry)) terms (heldIn (tableAt (now (hashes .entry)) (now (sizes .entry)) count)) ⌝ }
 {
     let line = read_command(l);
     let refusal = check_command(l, terms, hashes, sizes, count, marks, line);

@@ -15,6 +15,7 @@ use command::patching::Patching;
 use command::patching::read_patching;
 use command::source::Source;
 use marks::MARK_BYTES;
+use ranges::LEAST_AGAIN;
 use ranges::RangeSet;
 use state::limits::HASH_BYTES;
 use state::limits::MOST_AREA_BLOCKS;
@@ -137,7 +138,7 @@ fn sum_stashes<'a>(
     };
     let mut at = first;
     loop {
-        let part = read_part(l, at);
+        let part = read_part(l, at, LEAST_AGAIN);
         let hash = part.hash;
         let read = part.read;
         match read {

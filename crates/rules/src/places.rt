@@ -15,6 +15,7 @@ use command::source::Source;
 use marks::MARK_BYTES;
 use marks::clear_marks;
 use marks::take_place;
+use ranges::LEAST_AGAIN;
 use ranges::walk::Step;
 use ranges::walk::next_block;
 use ranges::walk::past_range;
@@ -70,7 +71,7 @@ fn take_uses(l: &[u8], first: usize, n: usize, marks: &mut [u8; MARK_BYTES]) -> 
 {
     let mut at = first;
     loop {
-        let part = read_part(l, at);
+        let part = read_part(l, at, LEAST_AGAIN);
         let read = part.read;
         match read {
             PartRead::Bad(_) => {

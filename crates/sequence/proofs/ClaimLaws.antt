@@ -6,6 +6,7 @@ use Prim.Native.Nat.{ℕ, suc}
 use native.Mathlib.Nat.{zero-add}
 use native.Mathlib.Omega.{arith}
 use lib.ListN.{length}
+use Rattle.ranges.specs.Ranges.{leastBlocks}
 use Rattle.state.specs.Refusals.{none}
 use Rattle.state.specs.Stashes.{heldIn, entries}
 use Rattle.state.specs.declared.Lengths.{Lengths}
@@ -35,7 +36,7 @@ use Rattle.sequence.proofs.SequenceLaws.{Possible, runs, last-says, las
 
 -- ---- the calls after an opening
 
-opened-state : (s : List ℕ) (a : Areas) → Accepted s a → openState s (lengthsAt s a) ≡ acceptedState s (lengthsAt s a)
+opened-state : (s : List ℕ) (a : Areas) → Accepted s a → openState leastBlocks s (lengthsAt s a) ≡ acceptedState s (lengthsAt s a)
 unfolding openState
 opened-state s a e = rw e
 
@@ -69,34 +70,34 @@ module _ (s : List ℕ) (a : Areas) (e : Accepted s a) where
   starts-possible = running-possible s lengths header start starts (none-into s (termsOf lengths header) (start .state) starts-into)
 
   abbrev machineOpened : Machine
-  machineOpened = machine s (termsOf lengths header)
+  machineOpened = machine leastBlocks s (termsOf lengths header)
 
   -- the model over all bytes is a call over them
-  model-feeds : (xs : List ℕ) → model s a xs ≡ modelOf (feeds machineOpened xs start) (counts machineOpened xs start)
+  model-feeds : (xs : List ℕ) → model leastBlocks s a xs ≡ modelOf (feeds machineOpened xs start) (counts machineOpened xs start)
   unfolding model
   model-feeds xs =
-      ap (λ (m : Model). runLines (suc (length s)) s m xs) (model-start s a e)
+      ap (λ (m : Model). runLines leastBlocks (suc (length s)) s m xs) (model-start s a e)
       ∙ lines s (termsOf lengths header) (Running s lengths header) (runs s lengths header) (suc (length s)) start xs 0 starts
       starts-free starts-into (omega arith) (omega arith)
       ∙ ap (λ (k : ℕ). modelOf (feeds machineOpened xs start) k) (zero-add (counts machineOpened xs start))
 
   module _ (q : List ℕ) (qs : List (List ℕ)) where
     abbrev last : Config
-    last = leavesAll s (q ∷ qs) start
+    last = leavesAll leastBlocks s (q ∷ qs) start
 
     opened-ends : last ≡ feeds machineOpened (joined (q ∷ qs)) start
     opened-ends = leaves-joined s lengths header q qs start starts starts-possible
 
-    opened-takes : takesAll s (q ∷ qs) start ≡ counts machineOpened (joined (q ∷ qs)) start
+    opened-takes : takesAll leastBlocks s (q ∷ qs) start ≡ counts machineOpened (joined (q ∷ qs)) start
     opened-takes = takes-joined s lengths header q qs start starts starts-possible
 
-    opened-says : lastSays s q qs start ≡ outcomeOf s (last .state)
+    opened-says : lastSays leastBlocks s q qs start ≡ outcomeOf s (last .state)
     opened-says = last-says s lengths header q qs start starts starts-possible
 
-    opened-model : modelOf last (takesAll s (q ∷ qs) start) ≡ model s a (joined (q ∷ qs))
+    opened-model : modelOf last (takesAll leastBlocks s (q ∷ qs) start) ≡ model leastBlocks s a (joined (q ∷ qs))
     opened-model = model-eq _ _ _ _ opened-ends opened-takes ∙ sym (model-feeds (joined (q ∷ qs)))
 
-    opened-holds : Holds lengths (last .state) (model s a (joined (q ∷ qs)))
+    opened-holds : Holds lengths (last .state) (model leastBlocks s a (joined (q ∷ qs)))
     opened-holds =
         let v = last-running s lengths header q qs start starts starts-possible in
         let m = opened-model in
@@ -110,7 +111,7 @@ module _ (s : List ℕ) (a : Areas) (e : Accepted s a) where
           lengths = v .lent .opened;
         }
 
-    opened-agrees : Agrees s a q qs (model s a (joined (q ∷ qs)))
+    opened-agrees : Agrees s a q qs (model leastBlocks s a (joined (q ∷ qs)))
     opened-agrees =
         record {
           areas = ap (λ (x : Model). x .areas) opened-model;
@@ -123,10 +124,10 @@ module _ (s : List ℕ) (a : Areas) (e : Accepted s a) where
     opened-written =
         rw opened-ends (feeds-written s lengths header a (joined (q ∷ qs)) start starts (written-none s (start .state .at) a))
 
-    opened-whole : lastSays s q qs start ≡ outcome.More → lastTakes s q qs start ≡ length (lastPiece q qs)
+    opened-whole : lastSays leastBlocks s q qs start ≡ outcome.More → lastTakes leastBlocks s q qs start ≡ length (lastPiece q qs)
     opened-whole = last-whole s lengths header q qs start starts starts-possible
 
-    opened-only : {refused : Refusal} → lastSays s q qs start ≡ outcome.Refused refused → InRun (refused .number)
+    opened-only : {refused : Refusal} → lastSays leastBlocks s q qs start ≡ outcome.Refused refused → InRun (refused .number)
     opened-only = last-only s lengths header q qs start starts starts-possible
 
   opened-alike : (q r : List ℕ) (qs rs : List (List ℕ)) → joined (q ∷ qs) ≡ joined (r ∷ rs) → Alike s a q r qs rs

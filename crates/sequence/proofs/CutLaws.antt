@@ -8,6 +8,7 @@ use native.Mathlib.Omega.{arith}
 use borrow.Author.Tests.{ne-eqb}
 use lib.ListN.{length, take, drop, getD, length-take, length-drop, take-append-drop, drop-of-length-le}
 use lib.Seq.{take-all, take-nil, drop-nil, drop-drop, drop-cons}
+use Rattle.ranges.specs.Ranges.{leastBlocks}
 use Rattle.state.specs.Refusals.{none}
 use Rattle.state.specs.declared.Lengths.{Lengths}
 use Rattle.state.specs.declared.State.{State}
@@ -53,39 +54,39 @@ module _ (bytes : List ℕ) (from n end : ℕ) (e : end ≡ from + min n (length
 -- ---- the calls over all pieces: what they leave, take, and say at last
 
 abbrev leavesCut : List ℕ → List ℕ → List ℕ → Config → Config
-leavesCut s xs cs p = leavesAll s (firstPiece xs cs ∷ laterPieces xs cs) p
+leavesCut s xs cs p = leavesAll leastBlocks s (firstPiece xs cs ∷ laterPieces xs cs) p
 
 abbrev takesCut : List ℕ → List ℕ → List ℕ → Config → ℕ
-takesCut s xs cs p = takesAll s (firstPiece xs cs ∷ laterPieces xs cs) p
+takesCut s xs cs p = takesAll leastBlocks s (firstPiece xs cs ∷ laterPieces xs cs) p
 
 abbrev saysCut : List ℕ → List ℕ → List ℕ → Config → Outcome
-saysCut s xs cs p = lastSays s (firstPiece xs cs) (laterPieces xs cs) p
+saysCut s xs cs p = lastSays leastBlocks s (firstPiece xs cs) (laterPieces xs cs) p
 
 -- after the first call the others are left
 module _ (s xs ns : List ℕ) (n : ℕ) (p : Config) where
-  leaves-first : leavesCut s xs (n ∷ ns) p ≡ leavesCut s (drop n xs) ns (leaves s (take n xs) p)
+  leaves-first : leavesCut s xs (n ∷ ns) p ≡ leavesCut s (drop n xs) ns (leaves leastBlocks s (take n xs) p)
   unfolding leavesAll firstPiece laterPieces
   leaves-first = refl
 
-  takes-first : takesCut s xs (n ∷ ns) p ≡ takes s (take n xs) p + takesCut s (drop n xs) ns (leaves s (take n xs) p)
+  takes-first : takesCut s xs (n ∷ ns) p ≡ takes leastBlocks s (take n xs) p + takesCut s (drop n xs) ns (leaves leastBlocks s (take n xs) p)
   unfolding takesAll firstPiece laterPieces
   takes-first = refl
 
-  says-first : saysCut s xs (n ∷ ns) p ≡ saysCut s (drop n xs) ns (leaves s (take n xs) p)
+  says-first : saysCut s xs (n ∷ ns) p ≡ saysCut s (drop n xs) ns (leaves leastBlocks s (take n xs) p)
   unfolding lastSays firstPiece laterPieces
   says-first = refl
 
 -- where no cut is left the last call takes what is left
 module _ (s xs : List ℕ) (p : Config) where
-  leaves-last : leavesCut s xs [] p ≡ leaves s xs p
+  leaves-last : leavesCut s xs [] p ≡ leaves leastBlocks s xs p
   unfolding leavesAll firstPiece laterPieces
   leaves-last = refl
 
-  takes-last : takesCut s xs [] p ≡ takes s xs p
+  takes-last : takesCut s xs [] p ≡ takes leastBlocks s xs p
   unfolding takesAll firstPiece laterPieces
   takes-last = omega arith
 
-  says-last : saysCut s xs [] p ≡ says s xs p
+  says-last : saysCut s xs [] p ≡ says leastBlocks s xs p
   unfolding lastSays firstPiece laterPieces
   says-last = refl
 
@@ -105,7 +106,7 @@ module _ (s bytes cuts : List ℕ) where
 
   module _ {p₀ p : Config} {from k total : ℕ} (v : Cutting s bytes cuts p₀ p from k total) {areas : Areas} {called : Called} where
     -- the total stays within the data
-    pub total-within : (n : ℕ) → resultOf areas called ≡ callOf s (take n (drop from bytes)) p →
+    pub total-within : (n : ℕ) → resultOf areas called ≡ callOf leastBlocks s (take n (drop from bytes)) p →
         (total + called .taken ≤ from + n) × (total + called .taken ≤ length bytes)
     total-within n r =
         let a = call-most s (take n (drop from bytes)) p r in
@@ -114,7 +115,7 @@ module _ (s bytes cuts : List ℕ) where
         (omega arith, omega arith)
 
     pub cutting-more : k < length cuts → {end : ℕ} → end ≡ from + min (getD cuts k 0) (length bytes - from) →
-        resultOf areas called ≡ callOf s (take (end - from) (drop from bytes)) p →
+        resultOf areas called ≡ callOf leastBlocks s (take (end - from) (drop from bytes)) p →
         Cutting s bytes cuts p₀ (configOf areas (called .state)) end (k + 1) (total + called .taken)
     cutting-more h {end} e r =
         let f = piece-short bytes from (getD cuts k 0) end e in
@@ -133,7 +134,7 @@ module _ (s bytes cuts : List ℕ) where
         }
 
     -- the last call takes what is left
-    pub cutting-ends : length cuts ≤ k → resultOf areas called ≡ callOf s (take (length bytes - from) (drop from bytes)) p →
+    pub cutting-ends : length cuts ≤ k → resultOf areas called ≡ callOf leastBlocks s (take (length bytes - from) (drop from bytes)) p →
         resultOf areas (record { state = called .state; outcome = called .outcome; taken = total + called .taken })
         ≡ callsOver s (firstPiece bytes cuts) (laterPieces bytes cuts) p₀
     cutting-ends h r =
@@ -152,21 +153,21 @@ module _ (s bytes cuts : List ℕ) where
 
 -- an opening's state holds its refusal, if any
 module _ (s : List ℕ) (lengths : Lengths) where
-  open-free : openRefusal s lengths .number ≡ none → openState s lengths .refusal .number ≡ none
+  open-free : openRefusal leastBlocks s lengths .number ≡ none → openState leastBlocks s lengths .refusal .number ≡ none
   unfolding openState acceptedState
   open-free e = rw e
 
-  open-refusal : (openRefusal s lengths .number ≡ none → ⊥) → openState s lengths .refusal ≡ openRefusal s lengths
+  open-refusal : (openRefusal leastBlocks s lengths .number ≡ none → ⊥) → openState leastBlocks s lengths .refusal ≡ openRefusal leastBlocks s lengths
   unfolding openState refusedState
-  open-refusal h = rw (ne-eqb (openRefusal s lengths .number) none h)
+  open-refusal h = rw (ne-eqb (openRefusal leastBlocks s lengths .number) none h)
 
-module _ (s : List ℕ) (a : Areas) (bytes cuts : List ℕ) {opened : State} (o : opened ≡ openState s (lengthsAt s a)) where
+module _ (s : List ℕ) (a : Areas) (bytes cuts : List ℕ) {opened : State} (o : opened ≡ openState leastBlocks s (lengthsAt s a)) where
   pub run-refused : (opened .refusal .number ≡ none → ⊥) →
       resultOf a (record { state = opened; outcome = outcome.Refused (opened .refusal); taken = 0 }) ≡ runCuts s a bytes cuts
   unfolding runCuts
   run-refused h =
-      let n : openRefusal s (lengthsAt s a) .number ≡ none → ⊥ = λ z. h (rw o (open-free s (lengthsAt s a) z)) in
-      rw (ne-eqb (openRefusal s (lengthsAt s a) .number) none n, o, open-refusal s (lengthsAt s a) n)
+      let n : openRefusal leastBlocks s (lengthsAt s a) .number ≡ none → ⊥ = λ z. h (rw o (open-free s (lengthsAt s a) z)) in
+      rw (ne-eqb (openRefusal leastBlocks s (lengthsAt s a) .number) none n, o, open-refusal s (lengthsAt s a) n)
 
   pub run-accepted : opened .refusal .number ≡ none → {r : Result} →
       r ≡ callsOver s (firstPiece bytes cuts) (laterPieces bytes cuts) (configOf a opened) → r ≡ runCuts s a bytes cuts
@@ -185,7 +186,7 @@ pub cut-claim : CutClaim
 cut-claim =
     record {
       agrees = λ s a e bytes cuts.
-          let m : Agrees s a (firstPiece bytes cuts) (laterPieces bytes cuts) (model s a bytes) =
+          let m : Agrees s a (firstPiece bytes cuts) (laterPieces bytes cuts) (model leastBlocks s a bytes) =
           rw (joined-cuts bytes cuts) at (claim .agrees s a e (firstPiece bytes cuts) (laterPieces bytes cuts)) in
           rw (accepted-runs s a e bytes cuts)
           (record { areas = m .areas; state = m .state; outcome = m .outcome; taken = m .taken });

@@ -13,6 +13,7 @@ use Rattle.text.specs.Expected.{lf}
 use Rattle.text.specs.Line.{lineNumber}
 use Rattle.text.proofs.LineLaws.{line-mark}
 use Rattle.text.proofs.ChoiceLaws.{picks, both-true, either-false}
+use Rattle.ranges.specs.Ranges.{leastBlocks}
 use Rattle.state.specs.Limits.{mostStashes, tableBytes}
 use Rattle.state.specs.Refusals.{none, headerForm, lineForm, hasByte}
 use Rattle.state.specs.Stashes.{held}
@@ -47,14 +48,14 @@ record Follows (s : List ℕ) (from : ℕ) (t : State) : Type 0 where
   before : GoodLines s from (t .at)
 
 -- a possible state has the number of its line
-possible-line : (s : List ℕ) (lengths : Lengths) (t : State) → isPossible s lengths t ≡ true → t .line ≡ lineNumber s (t .at)
+possible-line : (s : List ℕ) (lengths : Lengths) (t : State) → isPossible leastBlocks s lengths t ≡ true → t .line ≡ lineNumber s (t .at)
 unfolding isPossible possibleUnder atLine
 possible-line s lengths t e =
     let a = both-true (sameLengths (t .lengths) lengths) _ e in
     let b = both-true (eqb (startRefusal s lengths .number) none) _ (a .1) in
     go (headerOf s) (b .1)
   where
-    go : (read : HeaderRead) → possibleUnder s lengths read t ≡ true → t .line ≡ lineNumber s (t .at)
+    go : (read : HeaderRead) → possibleUnder leastBlocks s lengths read t ≡ true → t .line ≡ lineNumber s (t .at)
     go (header.Bad line byte) f = absurd (let z : _≡_ {A = ℕ} 0 1 = cc in omega arith)
     go (header.Good h) f =
         let at-line = both-true (atLine s h (t .line) (t .at)) _ f .0 in
@@ -81,12 +82,12 @@ module _ (s : List ℕ) (from : ℕ) where
   module _ (terms : Terms) (p : Config) where
     -- a line that was refused
     refused-reports : p .state .at < length s → Follows s from (p .state) →
-        CallReports s from (refusedWith (p .state) (refusalHere s terms p) (faultHere s p))
+        CallReports s from (refusedWith (p .state) (refusalHere leastBlocks s terms p) (faultHere leastBlocks s p))
     unfolding refusedWith refusalOf
     refused-reports w v =
         let l = currentLine s p in
-        let hash = commandOf l .hash in
-        let c = currentCommand s p in
+        let hash = commandOf leastBlocks l .hash in
+        let c = currentCommand leastBlocks s p in
         ⊎-elim
         (λ b.
         let number = form-is l terms (held (p .state)) hash (b .1) in
@@ -107,12 +108,12 @@ module _ (s : List ℕ) (from : ℕ) where
         reports n e f = let z : _≡_ {A = ℕ} 0 1 = cc in omega arith
 
     after-reports : p .state .refusal .number ≡ none →
-        CallReports s from (after (currentLine s p) (commandOf (currentLine s p) .hash) (currentCommand s p) p .state)
+        CallReports s from (after (currentLine s p) (commandOf leastBlocks (currentLine s p) .hash) (currentCommand leastBlocks s p) p .state)
     unfolding after stateAfter passed
     after-reports e =
         let l = currentLine s p in
-        let hash = commandOf l .hash in
-        let c = currentCommand s p in
+        let hash = commandOf leastBlocks l .hash in
+        let c = currentCommand leastBlocks s p in
         let number = effect l (held (p .state)) hash c (p .areas) .refusal in
         picks (CallReports s from) (eqb number none) _ (refusedWith (p .state) number 0)
         (λ t. none-reports _ e)
@@ -120,13 +121,13 @@ module _ (s : List ℕ) (from : ℕ) where
         (effect-refusal l (held (p .state)) hash c (p .areas)))
 
     -- the next line is reached, or the run stays at this one
-    after-follows : refusalHere s terms p ≡ none → Follows s from (p .state) →
-        Follows s from (after (currentLine s p) (commandOf (currentLine s p) .hash) (currentCommand s p) p .state)
+    after-follows : refusalHere leastBlocks s terms p ≡ none → Follows s from (p .state) →
+        Follows s from (after (currentLine s p) (commandOf leastBlocks (currentLine s p) .hash) (currentCommand leastBlocks s p) p .state)
     unfolding after stateAfter passed refusedWith refusalOf
     after-follows e v =
         let l = currentLine s p in
-        let hash = commandOf l .hash in
-        let c = currentCommand s p in
+        let hash = commandOf leastBlocks l .hash in
+        let c = currentCommand leastBlocks s p in
         let number = effect l (held (p .state)) hash c (p .areas) .refusal in
         let end = command-ended l (good-command l terms (held (p .state)) hash c e) in
         let m = line-mark s (p .state .at) (end .place) (end .text) in
@@ -134,25 +135,25 @@ module _ (s : List ℕ) (from : ℕ) where
         (λ t. record { line = omega (arith, v .line, m .1); before = one-more (v .before) (command-line-good s (p .state .at) terms (held (p .state)) e) })
         (λ t. record { line = v .line; before = v .before })
 
-    quiet-follows : Follows s from (p .state) → Follows s from (quietStep s terms p .state)
+    quiet-follows : Follows s from (p .state) → Follows s from (quietStep leastBlocks s terms p .state)
     unfolding quietStep refusedAt refusedWith
     quiet-follows v =
-        picks (λ (q : Config). Follows s from (q .state)) (eqb (refusalHere s terms p) none)
-        (after (currentLine s p) (commandOf (currentLine s p) .hash) (currentCommand s p) p)
-        (refusedAt (refusalHere s terms p) (faultHere s p) p)
-        (λ t. after-follows (eqb-true (refusalHere s terms p) none t) v)
+        picks (λ (q : Config). Follows s from (q .state)) (eqb (refusalHere leastBlocks s terms p) none)
+        (after (currentLine s p) (commandOf leastBlocks (currentLine s p) .hash) (currentCommand leastBlocks s p) p)
+        (refusedAt (refusalHere leastBlocks s terms p) (faultHere leastBlocks s p) p)
+        (λ t. after-follows (eqb-true (refusalHere leastBlocks s terms p) none t) v)
         (λ t. record { line = v .line; before = v .before })
 
-    quiet-reports : NotStopped s p → Follows s from (p .state) → CallReports s from (quietStep s terms p .state)
+    quiet-reports : NotStopped s p → Follows s from (p .state) → CallReports s from (quietStep leastBlocks s terms p .state)
     unfolding quietStep refusedAt
     quiet-reports g v =
-        picks (λ (q : Config). CallReports s from (q .state)) (eqb (refusalHere s terms p) none)
-        (after (currentLine s p) (commandOf (currentLine s p) .hash) (currentCommand s p) p)
-        (refusedAt (refusalHere s terms p) (faultHere s p) p)
+        picks (λ (q : Config). CallReports s from (q .state)) (eqb (refusalHere leastBlocks s terms p) none)
+        (after (currentLine s p) (commandOf leastBlocks (currentLine s p) .hash) (currentCommand leastBlocks s p) p)
+        (refusedAt (refusalHere leastBlocks s terms p) (faultHere leastBlocks s p) p)
         (λ t. after-reports (g .unrefused))
         (λ t. refused-reports (g .within) v)
 
-  put-reports : (x : ℕ) (p : Config) → CallReports s from (p .state) → CallReports s from (putByte s x p .state)
+  put-reports : (x : ℕ) (p : Config) → CallReports s from (p .state) → CallReports s from (putByte leastBlocks s x p .state)
   unfolding putByte furtherInto
   put-reports x p r =
       record {
@@ -161,14 +162,14 @@ module _ (s : List ℕ) (from : ℕ) where
         other = r .other;
       }
 
-  put-follows : (x : ℕ) (p : Config) → Follows s from (p .state) → Follows s from (putByte s x p .state)
+  put-follows : (x : ℕ) (p : Config) → Follows s from (p .state) → Follows s from (putByte leastBlocks s x p .state)
   unfolding putByte furtherInto
   put-follows x p v = record { line = v .line; before = v .before }
 
   abbrev Reporting : Terms → Config → Type 0
   Reporting terms p = Fits s terms p × Follows s from (p .state) × CallReports s from (p .state)
 
-  reports-sound : (terms : Terms) → Sound (machine s terms) (Reporting terms)
+  reports-sound : (terms : Terms) → Sound (machine leastBlocks s terms) (Reporting terms)
   reports-sound terms =
       let f = fits-sound s terms in
       record {
@@ -177,21 +178,21 @@ module _ (s : List ℕ) (from : ℕ) where
         quiet-keeps = λ p i w. (
           f .quiet-keeps p (i .0) w,
           quiet-follows terms p (i .1),
-          quiet-reports terms p (not-stopped s p (either-false (isStopped s p) (needsByte s terms p) w .0)) (i .1),
+          quiet-reports terms p (not-stopped s p (either-false (isStopped s p) (needsByte leastBlocks s terms p) w .0)) (i .1),
         );
         put-keeps = λ p x i w n. (f .put-keeps p x (i .0) w n, put-follows x p (i .1), put-reports x p (i .2));
       }
 
 -- a call that is a run, over a state whose two tables have their lengths, whatever the list is by then
-pub call-reports : (s piece : List ℕ) (p : Config) → isRun s p ≡ true → length (p .state .hashes) ≡ tableBytes →
-    length (p .state .sizes) ≡ mostStashes → CallReports s (p .state .at) (leaves s piece p .state)
+pub call-reports : (s piece : List ℕ) (p : Config) → isRun leastBlocks s p ≡ true → length (p .state .hashes) ≡ tableBytes →
+    length (p .state .sizes) ≡ mostStashes → CallReports s (p .state .at) (leaves leastBlocks s piece p .state)
 unfolding isRun leaves
 call-reports s piece p r a b =
-    let k = both-true (eqb (p .state .refusal .number) none) (isPossible s (lengthsAt s (p .areas)) (p .state)) r in
+    let k = both-true (eqb (p .state .refusal .number) none) (isPossible leastBlocks s (lengthsAt s (p .areas)) (p .state)) r in
     let from = p .state .at in
     let terms = termsFor s (lengthsAt s (p .areas)) in
     rw r
-    (feeds-keeps (machine s terms) (Reporting s from terms) (reports-sound s from terms) piece p (
+    (feeds-keeps (machine leastBlocks s terms) (Reporting s from terms) (reports-sound s from terms) piece p (
       possible-fits s p (k .1) a b,
       record { line = possible-line s (lengthsAt s (p .areas)) (p .state) (k .1); before = nothing-yet },
       none-reports s from (p .state) (eqb-true (p .state .refusal .number) none (k .0)),

@@ -12,6 +12,7 @@ use lib.Dec.{ltb, eqb}
 use lib.ListN.{length, take, set, length-take}
 use Rattle.text.specs.Line.{lineAt}
 use Rattle.text.proofs.ChoiceLaws.{picks, both-true, either-false}
+use Rattle.ranges.specs.Ranges.{leastBlocks}
 use Rattle.command.specs.Patching.{patchingOf, resultHash}
 use Rattle.ranges.specs.Walk.{blocksAt, AllBelow}
 use Rattle.ranges.specs.declared.RangeSet.{RangeSet}
@@ -220,25 +221,25 @@ module _ (s : List ℕ) (lengths : Lengths) (h : Header) (p : Config) (v : Runni
   unfolding mostBlocks
   line-four = rw (v .header)
 
-  module _ (e : refusalHere s (termsOf lengths h) p ≡ none) where
-    here-writes : Writes (currentLine s p) (currentCommand s p) (mostBlocks (headerOf s)) (p .areas) (stepHere s p .areas)
+  module _ (e : refusalHere leastBlocks s (termsOf lengths h) p ≡ none) where
+    here-writes : Writes (currentLine s p) (currentCommand leastBlocks s p) (mostBlocks (headerOf s)) (p .areas) (stepHere s p .areas)
     unfolding after refusalOf
     here-writes =
         rw line-four
-        (effect-writes (currentLine s p) (termsOf lengths h) (held (p .state)) (commandOf (currentLine s p) .hash) (p .areas)
-        (v .fits .blocks) (v .fits .stash) (currentCommand s p) e
+        (effect-writes (currentLine s p) (termsOf lengths h) (held (p .state)) (commandOf leastBlocks (currentLine s p) .hash) (p .areas)
+        (v .fits .blocks) (v .fits .stash) (currentCommand leastBlocks s p) e
         (runnable s (termsOf lengths h) p (v .fits) e))
 
-    here-byte : (x : ℕ) → p .state .into < newBytes (currentCommand s p) →
-        Writes (currentLine s p) (currentCommand s p) (mostBlocks (headerOf s)) (p .areas) (putByte s x p .areas)
+    here-byte : (x : ℕ) → p .state .into < newBytes (currentCommand leastBlocks s p) →
+        Writes (currentLine s p) (currentCommand leastBlocks s p) (mostBlocks (headerOf s)) (p .areas) (putByte leastBlocks s x p .areas)
     unfolding putByte
     here-byte x l =
-        byte-writes (currentLine s p) (held (p .state)) (p .areas) (mostBlocks (headerOf s)) (currentCommand s p) (p .state .into) x
+        byte-writes (currentLine s p) (held (p .state)) (p .areas) (mostBlocks (headerOf s)) (currentCommand leastBlocks s p) (p .state .into) x
         (runnable s (termsOf lengths h) p (v .fits) e) l
 
   here-later : p .state .at ≤ stepHere s p .state .at
   unfolding after
-  here-later = after-at (currentLine s p) (commandOf (currentLine s p) .hash) (currentCommand s p) (p .state) _
+  here-later = after-at (currentLine s p) (commandOf leastBlocks (currentLine s p) .hash) (currentCommand leastBlocks s p) (p .state) _
 
 -- ---- the machine
 
@@ -246,24 +247,24 @@ module _ (s : List ℕ) (lengths : Lengths) (h : Header) (a₀ : Areas) where
   abbrev Written : Config → Type 0
   Written p = OnlyWritten s (p .state .at) a₀ (p .areas)
 
-  quiet-written : (p : Config) → Running s lengths h p → Written p → machine s (termsOf lengths h) .waits p ≡ false →
-      Written (quietStep s (termsOf lengths h) p)
+  quiet-written : (p : Config) → Running s lengths h p → Written p → machine leastBlocks s (termsOf lengths h) .waits p ≡ false →
+      Written (quietStep leastBlocks s (termsOf lengths h) p)
   quiet-written p v w m =
-      let b = not-stopped s p (either-false (isStopped s p) (needsByte s (termsOf lengths h) p) m .0) in
+      let b = not-stopped s p (either-false (isStopped s p) (needsByte leastBlocks s (termsOf lengths h) p) m .0) in
       let e = running-line s lengths h p v (b .unrefused) (b .within) in
       rw (step s (termsOf lengths h) p b e)
       (written-more s a₀ (up-to-here s lengths h p v) (here-later s lengths h p v) w (here-writes s lengths h p v e))
 
-  put-written : (p : Config) (x : ℕ) → Running s lengths h p → Written p → machine s (termsOf lengths h) .waits p ≡ true →
-      isStopped s p ≡ false → Written (putByte s x p)
+  put-written : (p : Config) (x : ℕ) → Running s lengths h p → Written p → machine leastBlocks s (termsOf lengths h) .waits p ≡ true →
+      isStopped s p ≡ false → Written (putByte leastBlocks s x p)
   unfolding needsByte putByte furtherInto
   put-written p x v w m n =
-      let b = both-true (eqb (refusalHere s (termsOf lengths h) p) none) (ltb (p .state .into) (newBytes (currentCommand s p))) (rw n at m) in
-      let e = eqb-true (refusalHere s (termsOf lengths h) p) none (b .0) in
-      let l = ltb-true (p .state .into) (newBytes (currentCommand s p)) (b .1) in
+      let b = both-true (eqb (refusalHere leastBlocks s (termsOf lengths h) p) none) (ltb (p .state .into) (newBytes (currentCommand leastBlocks s p))) (rw n at m) in
+      let e = eqb-true (refusalHere leastBlocks s (termsOf lengths h) p) none (b .0) in
+      let l = ltb-true (p .state .into) (newBytes (currentCommand leastBlocks s p)) (b .1) in
       written-more s a₀ (up-to-here s lengths h p v) (omega arith) w (here-byte s lengths h p v e x l)
 
-  pub written-sound : Sound (machine s (termsOf lengths h)) (λ p. Running s lengths h p × OnlyWritten s (p .state .at) a₀ (p .areas))
+  pub written-sound : Sound (machine leastBlocks s (termsOf lengths h)) (λ p. Running s lengths h p × OnlyWritten s (p .state .at) a₀ (p .areas))
   written-sound =
       let g = running-sound s lengths h in
       record {
@@ -275,6 +276,6 @@ module _ (s : List ℕ) (lengths : Lengths) (h : Header) (a₀ : Areas) where
 
   -- any bytes of new data
   pub feeds-written : (xs : List ℕ) (p : Config) → Running s lengths h p → OnlyWritten s (p .state .at) a₀ (p .areas) →
-      OnlyWritten s (feeds (machine s (termsOf lengths h)) xs p .state .at) a₀ (feeds (machine s (termsOf lengths h)) xs p .areas)
+      OnlyWritten s (feeds (machine leastBlocks s (termsOf lengths h)) xs p .state .at) a₀ (feeds (machine leastBlocks s (termsOf lengths h)) xs p .areas)
   feeds-written xs p v w =
-      feeds-keeps (machine s (termsOf lengths h)) (λ p. Running s lengths h p × Written p) written-sound xs p (v, w) .1
+      feeds-keeps (machine leastBlocks s (termsOf lengths h)) (λ p. Running s lengths h p × Written p) written-sound xs p (v, w) .1

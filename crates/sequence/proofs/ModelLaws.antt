@@ -14,6 +14,7 @@ use borrow.Author.Tests.{leb-true, leb-false, eqb-false, ne-eqb}
 use Rattle.text.specs.Choice.{no}
 use Rattle.text.proofs.ChoiceLaws.{bool, either-or-true}
 use Rattle.text.proofs.LineLaws.{line-some}
+use Rattle.ranges.specs.Ranges.{leastBlocks}
 use Rattle.ranges.specs.Walk.{blocksAt}
 use Rattle.ranges.specs.declared.RangeSet.{RangeSet}
 use Rattle.state.specs.Limits.{blockBytes}
@@ -58,19 +59,19 @@ model-eq a b n m e f = rw (e, f)
 
 -- what a run has at each of its configurations: they fit, and no line of an accepted list is refused
 pub record Runs (s : List ℕ) (terms : Terms) (Inv : Config → Type 0) : Type 0 where
-  pub sound : Sound (machine s terms) Inv
+  pub sound : Sound (machine leastBlocks s terms) Inv
   pub fits : (p : Config) → Inv p → Fits s terms p
-  pub unrefused : (p : Config) → Inv p → p .state .refusal .number ≡ none → p .state .at < length s → refusalHere s terms p ≡ none
+  pub unrefused : (p : Config) → Inv p → p .state .refusal .number ≡ none → p .state .at < length s → refusalHere leastBlocks s terms p ≡ none
 
 -- a model is what the machine comes to, from p with k bytes taken
 abbrev Is : List ℕ → Terms → Config → List ℕ → ℕ → Model → Type 0
-Is s terms p xs k m = m ≡ modelOf (feeds (machine s terms) xs p) (k + counts (machine s terms) xs p)
+Is s terms p xs k m = m ≡ modelOf (feeds (machine leastBlocks s terms) xs p) (k + counts (machine leastBlocks s terms) xs p)
 
 -- n lines of the model are right, from every line's start
 abbrev Lines : List ℕ → Terms → (Config → Type 0) → ℕ → Type 0
 Lines s terms Inv n =
     (p : Config) (xs : List ℕ) (k : ℕ) → Inv p → p .state .refusal .number ≡ none → p .state .into ≡ 0 → 0 < n →
-    length s < n + p .state .at → Is s terms p xs k (runLines n s (modelOf p k) xs)
+    length s < n + p .state .at → Is s terms p xs k (runLines leastBlocks n s (modelOf p k) xs)
 
 -- q is past the line of p
 record Next (s : List ℕ) (p q : Config) : Type 0 where
@@ -89,42 +90,42 @@ module _ (blocks xs : List ℕ) (p : Config) (k : ℕ) (i : p .state .into ≡ 0
 
 module _ (s : List ℕ) (terms : Terms) (Inv : Config → Type 0) (g : Runs s terms Inv) where
   -- a step without a byte
-  quietly : (p q : Config) (xs : List ℕ) → Inv p → NotStopped s p → refusalHere s terms p ≡ none →
-      newBytes (currentCommand s p) ≤ p .state .into → stepHere s p ≡ q →
-      (feeds (machine s terms) xs p ≡ feeds (machine s terms) xs q) × (counts (machine s terms) xs p ≡ counts (machine s terms) xs q) × Inv q
+  quietly : (p q : Config) (xs : List ℕ) → Inv p → NotStopped s p → refusalHere leastBlocks s terms p ≡ none →
+      newBytes (currentCommand leastBlocks s p) ≤ p .state .into → stepHere s p ≡ q →
+      (feeds (machine leastBlocks s terms) xs p ≡ feeds (machine leastBlocks s terms) xs q) × (counts (machine leastBlocks s terms) xs p ≡ counts (machine leastBlocks s terms) xs q) × Inv q
   quietly p q xs v l r h e =
       let w = moves s terms p l r h in
-      let f : quietStep s terms p ≡ q = step s terms p l r ∙ e in (
-        feeds-quiet (machine s terms) Inv (g .sound) xs p v w ∙ ap (feeds (machine s terms) xs) f,
-        counts-quiet (machine s terms) Inv (g .sound) xs p v w ∙ ap (counts (machine s terms) xs) f,
+      let f : quietStep leastBlocks s terms p ≡ q = step s terms p l r ∙ e in (
+        feeds-quiet (machine leastBlocks s terms) Inv (g .sound) xs p v w ∙ ap (feeds (machine leastBlocks s terms) xs) f,
+        counts-quiet (machine leastBlocks s terms) Inv (g .sound) xs p v w ∙ ap (counts (machine leastBlocks s terms) xs) f,
         subst Inv f (g .sound .quiet-keeps p v w),
       )
 
   -- the line ends, and the lines after it go on
   onward : (n : ℕ) → Lines s terms Inv n → (p q : Config) (xs : List ℕ) (k : ℕ) (m : Model) → Inv p → NotStopped s p →
-      refusalHere s terms p ≡ none → newBytes (currentCommand s p) ≤ p .state .into → stepHere s p ≡ q → Next s p q →
-      length s < suc n + p .state .at → m ≡ modelOf q k → Is s terms p xs k (runLines n s m xs)
+      refusalHere leastBlocks s terms p ≡ none → newBytes (currentCommand leastBlocks s p) ≤ p .state .into → stepHere s p ≡ q → Next s p q →
+      length s < suc n + p .state .at → m ≡ modelOf q k → Is s terms p xs k (runLines leastBlocks n s m xs)
   onward n ih p q xs k m v l r h e t f a =
       let z = quietly p q xs v l r h e in
       let b = line-some s (p .state .at) (l .within) in
       let c = l .within in
       let d = t .at in
-      ap (λ (x : Model). runLines n s x xs) a
+      ap (λ (x : Model). runLines leastBlocks n s x xs) a
       ∙ ih q xs k (z .2) (t .unrefused) (t .into) (omega arith) (omega arith)
       ∙ model-eq _ _ _ _ (sym (z .0)) (ap (λ (j : ℕ). k + j) (sym (z .1)))
 
   -- a command stops the run: the machine has stopped
-  halts : (p q : Config) (xs : List ℕ) (k : ℕ) (m : Model) → Inv p → NotStopped s p → refusalHere s terms p ≡ none →
-      newBytes (currentCommand s p) ≤ p .state .into → stepHere s p ≡ q → isStopped s q ≡ true → m ≡ modelOf q k → Is s terms p xs k m
+  halts : (p q : Config) (xs : List ℕ) (k : ℕ) (m : Model) → Inv p → NotStopped s p → refusalHere leastBlocks s terms p ≡ none →
+      newBytes (currentCommand leastBlocks s p) ≤ p .state .into → stepHere s p ≡ q → isStopped s q ≡ true → m ≡ modelOf q k → Is s terms p xs k m
   halts p q xs k m v l r h e t a =
       let z = quietly p q xs v l r h e in
-      let c = counts-stopped (machine s terms) Inv (g .sound) xs q (z .2) t in
+      let c = counts-stopped (machine leastBlocks s terms) Inv (g .sound) xs q (z .2) t in
       let d = z .1 in
-      a ∙ model-eq _ _ _ _ (sym (z .0 ∙ feeds-stopped (machine s terms) Inv (g .sound) xs q (z .2) t)) (omega arith)
+      a ∙ model-eq _ _ _ _ (sym (z .0 ∙ feeds-stopped (machine leastBlocks s terms) Inv (g .sound) xs q (z .2) t)) (omega arith)
 
   module _ (n : ℕ) (ih : Lines s terms Inv n) (p : Config) (xs : List ℕ) (k : ℕ) (v : Inv p) (l : NotStopped s p)
       (f : length s < suc n + p .state .at) where
-    good : refusalHere s terms p ≡ none
+    good : refusalHere leastBlocks s terms p ≡ none
     good = g .unrefused p v (l .unrefused) (l .within)
 
     abbrev line : List ℕ
@@ -132,14 +133,14 @@ module _ (s : List ℕ) (terms : Terms) (Inv : Config → Type 0) (g : Runs s te
 
     -- what its command does to the areas
     abbrev done : Effect
-    done = effect line (held (p .state)) (commandOf line .hash) (currentCommand s p) (p .areas)
+    done = effect line (held (p .state)) (commandOf leastBlocks line .hash) (currentCommand leastBlocks s p) (p .areas)
 
     stopped-after : (done .refusal ≡ none → ⊥) → isStopped s (stepHere s p) ≡ true
     unfolding after stateAfter refusedWith isStopped
     stopped-after z = rw (ne-eqb (done .refusal) none z, ne-eqb (done .refusal) none z)
 
     -- a command that takes no new data
-    effect-line : newBytes (currentCommand s p) ≡ 0 → Is s terms p xs k (doEffect (runLines n s) line (commandOf line) (modelOf p k) xs done)
+    effect-line : newBytes (currentCommand leastBlocks s p) ≡ 0 → Is s terms p xs k (doEffect (runLines leastBlocks n s) line (commandOf leastBlocks line) (modelOf p k) xs done)
     unfolding after stateAfter passed refusedWith refusalOf
     effect-line b =
         ⊎-elim
@@ -150,8 +151,8 @@ module _ (s : List ℕ) (terms : Terms) (Inv : Config → Type 0) (g : Runs s te
         f
         (rw (
           h,
-          ← (held-after line terms (tableOf (p .state)) (commandOf line .hash) (g .fits p v .whole) (g .fits p v .most-stashes)
-              (command-hash line) (currentCommand s p) good),
+          ← (held-after line terms (tableOf (p .state)) (commandOf leastBlocks line .hash) (g .fits p v .whole) (g .fits p v .most-stashes)
+              (command-hash line) (currentCommand leastBlocks s p) good),
         ))))
         (λ (h : eqb (done .refusal) none ≡ false).
         rw h
@@ -159,35 +160,35 @@ module _ (s : List ℕ) (terms : Terms) (Inv : Config → Type 0) (g : Runs s te
         (bool (eqb (done .refusal) none))
 
     -- bytes of a `new`, as many as it still takes or fewer
-    bytes-go : (blocks ys zs : List ℕ) → newBlocks line (currentCommand s p) ≡ blocks → p .state .into + length ys ≤ newBytes (currentCommand s p) →
-        (feeds (machine s terms) (ys ++ zs) p ≡ feeds (machine s terms) zs (fed blocks ys p))
-        × (counts (machine s terms) (ys ++ zs) p ≡ length ys + counts (machine s terms) zs (fed blocks ys p))
+    bytes-go : (blocks ys zs : List ℕ) → newBlocks line (currentCommand leastBlocks s p) ≡ blocks → p .state .into + length ys ≤ newBytes (currentCommand leastBlocks s p) →
+        (feeds (machine leastBlocks s terms) (ys ++ zs) p ≡ feeds (machine leastBlocks s terms) zs (fed blocks ys p))
+        × (counts (machine leastBlocks s terms) (ys ++ zs) p ≡ length ys + counts (machine leastBlocks s terms) zs (fed blocks ys p))
         × Inv (fed blocks ys p)
     bytes-go blocks ys zs e h =
         let a = eats-new s terms ys p l good (omega arith) in
         let q = puts-new s terms blocks ys p e in (
-          feeds-puts (machine s terms) Inv (g .sound) ys zs p v a ∙ ap (feeds (machine s terms) zs) q,
-          counts-puts (machine s terms) Inv (g .sound) ys zs p v a ∙ ap (λ (m : Config). length ys + counts (machine s terms) zs m) q,
-          subst Inv q (puts-keeps (machine s terms) Inv (g .sound) ys p v a),
+          feeds-puts (machine leastBlocks s terms) Inv (g .sound) ys zs p v a ∙ ap (feeds (machine leastBlocks s terms) zs) q,
+          counts-puts (machine leastBlocks s terms) Inv (g .sound) ys zs p v a ∙ ap (λ (m : Config). length ys + counts (machine leastBlocks s terms) zs m) q,
+          subst Inv q (puts-keeps (machine leastBlocks s terms) Inv (g .sound) ys p v a),
         )
 
-    module _ (set : RangeSet) (i : p .state .into ≡ 0) (e : newTarget (currentCommand s p) ≡ new.Set set) where
+    module _ (set : RangeSet) (i : p .state .into ≡ 0) (e : newTarget (currentCommand leastBlocks s p) ≡ new.Set set) where
       abbrev target : List ℕ
       target = blocksAt line (set .at)
 
       abbrev need : ℕ
       need = blockBytes * set .blocks
 
-      blocks-are : newBlocks line (currentCommand s p) ≡ target
+      blocks-are : newBlocks line (currentCommand leastBlocks s p) ≡ target
       unfolding newBlocks
       blocks-are = rw e
 
-      bytes-are : newBytes (currentCommand s p) ≡ need
+      bytes-are : newBytes (currentCommand leastBlocks s p) ≡ need
       unfolding newBytes
       bytes-are = rw e
 
       -- the same at the line once bytes are in
-      fed-bytes : (ys : List ℕ) → newBytes (currentCommand s (fed target ys p)) ≡ need
+      fed-bytes : (ys : List ℕ) → newBytes (currentCommand leastBlocks s (fed target ys p)) ≡ need
       unfolding fed furtherInto
       fed-bytes ys = bytes-are
 
@@ -198,7 +199,7 @@ module _ (s : List ℕ) (terms : Terms) (Inv : Config → Type 0) (g : Runs s te
       -- the step after its last byte
       ended : (ys : List ℕ) → stepHere s (fed target ys p) ≡ passedLine (fed target ys p) line
       unfolding after effect stateAfter tableAfter fed furtherInto passedLine
-      ended ys = rw (is-new (currentCommand s p) e)
+      ended ys = rw (is-new (currentCommand leastBlocks s p) e)
 
       past-next : (ys : List ℕ) → Next s (fed target ys p) (passedLine (fed target ys p) line)
       unfolding fed furtherInto passedLine passed
@@ -215,7 +216,7 @@ module _ (s : List ℕ) (terms : Terms) (Inv : Config → Type 0) (g : Runs s te
 
       -- all the bytes that the line takes are there
       new-whole : need ≤ length xs →
-          Is s terms p xs k (runLines n s (lineEnds line (withBytes target (take need xs) (modelOf p k))) (drop need xs))
+          Is s terms p xs k (runLines leastBlocks n s (lineEnds line (withBytes target (take need xs) (modelOf p k))) (drop need xs))
       new-whole h =
           let ys = take need xs in
           let zs = drop need xs in
@@ -223,14 +224,14 @@ module _ (s : List ℕ) (terms : Terms) (Inv : Config → Type 0) (g : Runs s te
           let b₀ = bytes-are in
           let a = bytes-go target ys zs blocks-are (omega arith) in
           let c : ys ++ zs ≡ xs = take-append-drop need xs in
-          let d = ap (λ (y : List ℕ). counts (machine s terms) y p) c in
+          let d = ap (λ (y : List ℕ). counts (machine leastBlocks s terms) y p) c in
           let b = a .1 in
           let x = fed-bytes ys in
           let y = fed-into ys in
           onward n ih (fed target ys p) (passedLine (fed target ys p) line) zs (k + length ys) _ (a .2) (fed-goes s terms target ys p l)
           (fed-refusal s terms target ys p ∙ good) (omega arith) (ended ys) (past-next ys) (later ys)
           (ap (lineEnds line) (model-fed target ys p k i) ∙ model-past ys)
-          ∙ model-eq _ _ _ _ (sym (a .0) ∙ ap (λ (y : List ℕ). feeds (machine s terms) y p) c) (omega arith)
+          ∙ model-eq _ _ _ _ (sym (a .0) ∙ ap (λ (y : List ℕ). feeds (machine leastBlocks s terms) y p) c) (omega arith)
 
       -- they are not
       new-part : length xs < need → Is s terms p xs k (withBytes target xs (modelOf p k))
@@ -238,35 +239,35 @@ module _ (s : List ℕ) (terms : Terms) (Inv : Config → Type 0) (g : Runs s te
           let b₀ = bytes-are in
           let a = bytes-go target xs [] blocks-are (omega arith) in
           let c = append-nil xs in
-          let d = ap (λ (y : List ℕ). counts (machine s terms) y p) c in
+          let d = ap (λ (y : List ℕ). counts (machine leastBlocks s terms) y p) c in
           let b = a .1 in
-          let z = counts-end (machine s terms) Inv (g .sound) (fed target xs p) in
+          let z = counts-end (machine leastBlocks s terms) Inv (g .sound) (fed target xs p) in
           let x = fed-bytes xs in
           let y = fed-into xs in
           let w =
           waits s terms (fed target xs p) (fed-goes s terms target xs p l) (fed-refusal s terms target xs p ∙ good) (omega arith) in
           model-fed target xs p k i
           ∙ model-eq _ _ _ _
-          (sym (feeds-end (machine s terms) Inv (g .sound) (fed target xs p) (a .2) w)
+          (sym (feeds-end (machine leastBlocks s terms) Inv (g .sound) (fed target xs p) (a .2) w)
           ∙ sym (a .0)
-          ∙ ap (λ (y : List ℕ). feeds (machine s terms) y p) c)
+          ∙ ap (λ (y : List ℕ). feeds (machine leastBlocks s terms) y p) c)
           (omega arith)
 
-      new-line : Is s terms p xs k (doNew (runLines n s) line set (modelOf p k) xs)
+      new-line : Is s terms p xs k (doNew (runLines leastBlocks n s) line set (modelOf p k) xs)
       new-line =
           ⊎-elim
           (λ (h : leb need (length xs) ≡ true). rw h (new-whole (leb-true need (length xs) h)))
           (λ (h : leb need (length xs) ≡ false). rw h (new-part (leb-false need (length xs) h)))
           (bool (leb need (length xs)))
 
-    one-line : p .state .into ≡ 0 → Is s terms p xs k (doLine (runLines n s) line (commandOf line) (modelOf p k) xs)
+    one-line : p .state .into ≡ 0 → Is s terms p xs k (doLine (runLines leastBlocks n s) line (commandOf leastBlocks line) (modelOf p k) xs)
     unfolding newBytes
-    one-line i = go (newTarget (currentCommand s p)) refl
+    one-line i = go (newTarget (currentCommand leastBlocks s p)) refl
       where
-        go : (t : NewTarget) → newTarget (currentCommand s p) ≡ t →
+        go : (t : NewTarget) → newTarget (currentCommand leastBlocks s p) ≡ t →
             Is s terms p xs k
-            (onNewTarget t (λ set. doNew (runLines n s) line set (modelOf p k) xs)
-            (doEffect (runLines n s) line (commandOf line) (modelOf p k) xs done))
+            (onNewTarget t (λ set. doNew (runLines leastBlocks n s) line set (modelOf p k) xs)
+            (doEffect (runLines leastBlocks n s) line (commandOf leastBlocks line) (modelOf p k) xs done))
         go (new.Set set) e = new-line set i e
         go new.None e = effect-line (rw e)
 
@@ -282,8 +283,8 @@ module _ (s : List ℕ) (terms : Terms) (Inv : Config → Type 0) (g : Runs s te
       ⊎-elim
       (λ (a : leb (length s) (p .state .at) ≡ true).
       let z = ended-stops p a in
-      let c = counts-stopped (machine s terms) Inv (g .sound) xs p v z in
-      rw a (model-eq _ _ _ _ (sym (feeds-stopped (machine s terms) Inv (g .sound) xs p v z)) (omega arith)))
+      let c = counts-stopped (machine leastBlocks s terms) Inv (g .sound) xs p v z in
+      rw a (model-eq _ _ _ _ (sym (feeds-stopped (machine leastBlocks s terms) Inv (g .sound) xs p v z)) (omega arith)))
       (λ (a : leb (length s) (p .state .at) ≡ false).
       rw a
       (one-line n (lines n) p xs k v (record { unrefused = e; within = leb-false (length s) (p .state .at) a }) f i))

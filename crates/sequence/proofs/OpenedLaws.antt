@@ -11,6 +11,7 @@ use lib.Dec.{leb, eqb}
 use lib.ListN.{length, length-replicate}
 use Rattle.text.specs.Choice.{no}
 use Rattle.text.specs.Line.{lineAt}
+use Rattle.ranges.specs.Ranges.{leastBlocks}
 use Rattle.state.specs.Refusals.{none, totalDiffers}
 use Rattle.state.specs.Limits.{mostStashes, tableBytes}
 use Rattle.state.specs.Stashes.{Stash, heldIn, entries, heldTwice, blocksHeld}
@@ -34,18 +35,18 @@ use Rattle.sequence.specs.Claim.{openedConfig, Accepted}
 use Rattle.text.proofs.ChoiceLaws.{bool, picks}
 use Rattle.sequence.proofs.Running.{WalkLeft, going, Running}
 
-module _ (s : List ℕ) (lengths : Lengths) (e : openRefusal s lengths ≡ noRefusal) where
+module _ (s : List ℕ) (lengths : Lengths) (e : openRefusal leastBlocks s lengths ≡ noRefusal) where
   -- neither the start nor a command line is refused
-  accepted : (startRefusal s lengths .number ≡ none) × (commandsRefusal s lengths (headerOf s) ≡ noRefusal)
+  accepted : (startRefusal s lengths .number ≡ none) × (commandsRefusal leastBlocks s lengths (headerOf s) ≡ noRefusal)
   unfolding openRefusal
   accepted = go (bool (eqb (startRefusal s lengths .number) none))
     where
       go : (eqb (startRefusal s lengths .number) none ≡ true) ⊎ (eqb (startRefusal s lengths .number) none ≡ false) →
-          (startRefusal s lengths .number ≡ none) × (commandsRefusal s lengths (headerOf s) ≡ noRefusal)
+          (startRefusal s lengths .number ≡ none) × (commandsRefusal leastBlocks s lengths (headerOf s) ≡ noRefusal)
       go (inl t) = (eqb-true (startRefusal s lengths .number) none t, rw t at e)
       go (inr t) = absurd (eqb-false (startRefusal s lengths .number) none t (ap (λ (r : Refusal). r .number) (rw t at e)))
 
-  opened-state : {h : Header} → headerOf s ≡ Good h → openState s lengths ≡ stateAt firstLine (h .first) noRefusal lengths
+  opened-state : {h : Header} → headerOf s ≡ Good h → openState leastBlocks s lengths ≡ stateAt firstLine (h .first) noRefusal lengths
   unfolding openState acceptedState firstAt
   opened-state r = rw (e, r)
 
@@ -78,12 +79,12 @@ module _ (s : List ℕ) (a : Areas) (o : Opening s (lengthsAt s a)) where
         blocks = omega arith;
       }
 
-  walk : commandsRefusal s (lengthsAt s a) (headerOf s) ≡ noRefusal →
+  walk : commandsRefusal leastBlocks s (lengthsAt s a) (headerOf s) ≡ noRefusal →
       WalkLeft s (termsOf (lengthsAt s a) (o .header)) (o .header) (startsAt s a (o .header))
   unfolding commandsRefusal heldIn entries
   walk e = record { n = suc (length s); counted = 0; enough = omega (arith, header-first s (o .read) .0); accepted = rw (o .read) at e }
 
-  starts : startRefusal s (lengthsAt s a) .number ≡ none → commandsRefusal s (lengthsAt s a) (headerOf s) ≡ noRefusal →
+  starts : startRefusal s (lengthsAt s a) .number ≡ none → commandsRefusal leastBlocks s (lengthsAt s a) (headerOf s) ≡ noRefusal →
       Running s (lengthsAt s a) (o .header) (startsAt s a (o .header))
   unfolding heldIn entries heldTwice
   starts z e =
@@ -109,34 +110,34 @@ total-decided h counted =
     picks Decided (no (eqb counted (h .total))) (refusing totalDiffers 2) noRefusal (λ e r. absurd (omega arith)) (λ e r. refl)
 
 lines-decided : (n : ℕ) (s : List ℕ) (terms : Terms) (h : Header) (line at : ℕ) (stashes : List Stash) (counted : ℕ) →
-    Decided (linesRefusal n s terms h line at stashes counted)
+    Decided (linesRefusal leastBlocks n s terms h line at stashes counted)
 unfolding linesRefusal
 lines-decided zero s terms h line at stashes counted = total-decided h counted
 lines-decided (suc n) s terms h line at stashes counted =
     picks Decided (leb (length s) at) _ _ (λ e. total-decided h counted)
     (λ e.
-    picks Decided (eqb (refusalOf (lineAt s at) terms stashes) none) _ _
+    picks Decided (eqb (refusalOf leastBlocks (lineAt s at) terms stashes) none) _ _
     (λ f. lines-decided n s terms h (line + 1) (at + length (lineAt s at)) _ _)
-    (λ f r. absurd (eqb-false (refusalOf (lineAt s at) terms stashes) none f r)))
+    (λ f r. absurd (eqb-false (refusalOf leastBlocks (lineAt s at) terms stashes) none f r)))
 
-commands-decided : (s : List ℕ) (lengths : Lengths) (h : HeaderRead) → Decided (commandsRefusal s lengths h)
+commands-decided : (s : List ℕ) (lengths : Lengths) (h : HeaderRead) → Decided (commandsRefusal leastBlocks s lengths h)
 unfolding commandsRefusal
 commands-decided s lengths (Good h) = lines-decided (suc (length s)) s (termsOf lengths h) h firstLine (h .first) [] 0
 commands-decided s lengths (Bad line byte) = λ r. refl
 
-open-decided : (s : List ℕ) (lengths : Lengths) → Decided (openRefusal s lengths)
+open-decided : (s : List ℕ) (lengths : Lengths) → Decided (openRefusal leastBlocks s lengths)
 unfolding openRefusal
 open-decided s lengths =
     picks Decided (eqb (startRefusal s lengths .number) none) _ _ (λ e. commands-decided s lengths (headerOf s))
     (λ e r. absurd (eqb-false (startRefusal s lengths .number) none e r))
 
 -- .. by the state that it gives
-pub state-decided : (s : List ℕ) (lengths : Lengths) → openState s lengths .refusal .number ≡ none → openRefusal s lengths ≡ noRefusal
+pub state-decided : (s : List ℕ) (lengths : Lengths) → openState leastBlocks s lengths .refusal .number ≡ none → openRefusal leastBlocks s lengths ≡ noRefusal
 unfolding openState acceptedState refusedState
 state-decided s lengths =
-    picks (λ (t : State). t .refusal .number ≡ none → openRefusal s lengths ≡ noRefusal) (eqb (openRefusal s lengths .number) none) _ _
-    (λ e r. open-decided s lengths (eqb-true (openRefusal s lengths .number) none e))
-    (λ e r. absurd (eqb-false (openRefusal s lengths .number) none e r))
+    picks (λ (t : State). t .refusal .number ≡ none → openRefusal leastBlocks s lengths ≡ noRefusal) (eqb (openRefusal leastBlocks s lengths .number) none) _ _
+    (λ e r. open-decided s lengths (eqb-true (openRefusal leastBlocks s lengths .number) none e))
+    (λ e r. absurd (eqb-false (openRefusal leastBlocks s lengths .number) none e r))
 
 -- where an accepted opening leaves a run, with no byte into a `new`
 pub opened-running : (s : List ℕ) (a : Areas) → Accepted s a →

@@ -15,6 +15,7 @@ use Rattle.text.specs.Expected.{lf}
 use Rattle.text.proofs.ChoiceLaws.{bool, both-is, either-or-true}
 use Rattle.text.proofs.ExpectedLaws.{expected-next}
 use Rattle.text.proofs.LineLaws.{line-none}
+use Rattle.ranges.specs.Ranges.{leastBlocks}
 use Rattle.state.specs.Limits.{blockBytes, mostStashes}
 use Rattle.state.specs.Refusals.{none}
 use Rattle.state.specs.Stashes.{tableOf, held, blocksHeld}
@@ -40,7 +41,7 @@ use Rattle.sequence.proofs.RunningLaws.{into-more}
 
 module _ (s : List ℕ) (terms : Terms) (p : Config) where
   -- not all bytes are in
-  into-some : needsByte s terms p ≡ true → hasMore terms (p .state .into) (commandOf (currentLine s p) .command) ≡ true
+  into-some : needsByte leastBlocks s terms p ≡ true → hasMore terms (p .state .into) (commandOf leastBlocks (currentLine s p) .command) ≡ true
   unfolding hasMore newTarget
   into-some e =
       let n = into-more s terms p e in
@@ -55,12 +56,12 @@ end-not-new s terms at into l n =
 
 -- ---- what a call tests of a state
 
-pub none-into : (s : List ℕ) (terms : Terms) (state : State) → state .into ≡ 0 → canBeInto s terms (state .at) (state .into) ≡ true
+pub none-into : (s : List ℕ) (terms : Terms) (state : State) → state .into ≡ 0 → canBeInto leastBlocks s terms (state .at) (state .into) ≡ true
 unfolding canBeInto
 none-into s terms state e = rw e
 
-some-into : (s : List ℕ) (terms : Terms) (state : State) → hasMore terms (state .into) (commandOf (lineAt s (state .at)) .command) ≡ true →
-    canBeInto s terms (state .at) (state .into) ≡ true
+some-into : (s : List ℕ) (terms : Terms) (state : State) → hasMore terms (state .into) (commandOf leastBlocks (lineAt s (state .at)) .command) ≡ true →
+    canBeInto leastBlocks s terms (state .at) (state .into) ≡ true
 unfolding canBeInto
 some-into s terms state e = rw e (sym (either-or-true (eqb (state .into) 0)))
 
@@ -85,17 +86,17 @@ same-lengths lengths =
 
 module _ (s : List ℕ) (lengths : Lengths) (h : Header) (p : Config) (v : Running s lengths h p) where
   -- where a call ends, the bytes into a `new` are not all of them
-  pub running-into : machine s (termsOf lengths h) .waits p ≡ true → p .state .refusal .number ≡ none →
-      canBeInto s (termsOf lengths h) (p .state .at) (p .state .into) ≡ true
+  pub running-into : machine leastBlocks s (termsOf lengths h) .waits p ≡ true → p .state .refusal .number ≡ none →
+      canBeInto leastBlocks s (termsOf lengths h) (p .state .at) (p .state .into) ≡ true
   running-into w z = go (v .into) (bool (leb (length s) (p .state .at)))
     where
       go : Into s (termsOf lengths h) (p .state) →
           (leb (length s) (p .state .at) ≡ true) ⊎ (leb (length s) (p .state .at) ≡ false) →
-          canBeInto s (termsOf lengths h) (p .state .at) (p .state .into) ≡ true
+          canBeInto leastBlocks s (termsOf lengths h) (p .state .at) (p .state .into) ≡ true
       go (inl e) t = none-into s (termsOf lengths h) (p .state) e
       go (inr n) (inl t) = absurd (end-not-new s (termsOf lengths h) _ _ (leb-true (length s) (p .state .at) t) n)
       go (inr n) (inr t) =
-          let e : needsByte s (termsOf lengths h) p ≡ true = rw (at-line-goes s p z t) at w in
+          let e : needsByte leastBlocks s (termsOf lengths h) p ≡ true = rw (at-line-goes s p z t) at w in
           some-into s (termsOf lengths h) (p .state) (into-some s (termsOf lengths h) p e)
 
   lengths-here : lengthsAt s (p .areas) ≡ lengths
@@ -115,7 +116,7 @@ module _ (s : List ℕ) (lengths : Lengths) (h : Header) (p : Config) (v : Runni
       both-is (le-leb (p .state .count) mostStashes (v .fits .whole .count))
       (both-is (ap no (v .once)) (le-leb (blocksHeld (held (p .state))) (h .blocks) (v .fits .blocks)))
 
-  possible : canBeInto s (termsOf lengths h) (p .state .at) (p .state .into) ≡ true → isPossible s lengths (p .state) ≡ true
+  possible : canBeInto leastBlocks s (termsOf lengths h) (p .state .at) (p .state .into) ≡ true → isPossible leastBlocks s lengths (p .state) ≡ true
   unfolding isPossible possibleUnder
   possible i =
       both-is (ap (λ (x : Lengths). sameLengths x lengths) (v .lent .opened) ∙ same-lengths lengths)
@@ -123,11 +124,11 @@ module _ (s : List ℕ) (lengths : Lengths) (h : Header) (p : Config) (v : Runni
       (rw (v .header) (both-is at-line-true (both-is can-hold-true i))))
 
   -- no state of a run is impossible
-  pub running-possible : canBeInto s (termsOf lengths h) (p .state .at) (p .state .into) ≡ true → p .state .refusal .number ≡ none → isRun s p ≡ true
+  pub running-possible : canBeInto leastBlocks s (termsOf lengths h) (p .state .at) (p .state .into) ≡ true → p .state .refusal .number ≡ none → isRun leastBlocks s p ≡ true
   unfolding isRun
   running-possible i z =
       both-is (eq-eqb (p .state .refusal .number) none z)
-      (ap (λ (x : Lengths). isPossible s x (p .state)) lengths-here ∙ possible i)
+      (ap (λ (x : Lengths). isPossible leastBlocks s x (p .state)) lengths-here ∙ possible i)
 
   pub running-terms : termsFor s (lengthsAt s (p .areas)) ≡ termsOf lengths h
   unfolding termsFor termsUnder

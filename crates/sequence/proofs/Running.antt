@@ -8,6 +8,7 @@ use Prim.Native.Nat.{ℕ, _+_, _-_, _*_, _≤_, _<_}
 use lib.ListN.{length, getD}
 use Rattle.text.specs.Line.{lineAt, lineNumber}
 use Rattle.text.specs.Expected.{lf}
+use Rattle.ranges.specs.Ranges.{leastBlocks}
 use Rattle.ranges.specs.declared.RangeSet.{RangeSet}
 use Rattle.state.specs.Limits.{blockBytes}
 use Rattle.state.specs.Refusals.{none}
@@ -35,7 +36,7 @@ pub record WalkLeft (s : List ℕ) (terms : Terms) (h : Header) (p : Config) : T
   pub n : ℕ
   pub counted : ℕ
   pub enough : length s < n + p .state .at
-  pub accepted : linesRefusal n s terms h (p .state .line) (p .state .at) (held (p .state)) counted ≡ noRefusal
+  pub accepted : linesRefusal leastBlocks n s terms h (p .state .line) (p .state .at) (held (p .state)) counted ≡ noRefusal
 
 -- nothing is refused and the walk goes on from here, or a command stopped
 pub data OpenOrStopped (s : List ℕ) (terms : Terms) (h : Header) (p : Config) : Type 0 where
@@ -45,7 +46,7 @@ pub data OpenOrStopped (s : List ℕ) (terms : Terms) (h : Header) (p : Config) 
 -- the line at a position is a good `new` with that many bytes or more
 pub record IntoNew (s : List ℕ) (terms : Terms) (at into : ℕ) : Type 0 where
   pub set : RangeSet
-  pub is-new : commandOf (lineAt s at) .command ≡ command.New set
+  pub is-new : commandOf leastBlocks (lineAt s at) .command ≡ command.New set
   pub good : targetRefusal terms set ≡ none
   pub within : into ≤ blockBytes * set .blocks
 

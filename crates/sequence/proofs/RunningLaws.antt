@@ -12,6 +12,7 @@ use lib.Dec.{ltb, eqb}
 use lib.ListN.{length, length-set}
 use Rattle.text.proofs.ChoiceLaws.{both-true, either-false}
 use Rattle.text.proofs.LineLaws.{line-some, line-mark}
+use Rattle.ranges.specs.Ranges.{leastBlocks}
 use Rattle.ranges.specs.declared.RangeSet.{RangeSet}
 use Rattle.state.specs.Limits.{blockBytes}
 use Rattle.state.specs.Refusals.{none}
@@ -54,7 +55,7 @@ pub record PastLine (l : List ℕ) (t u : State) : Type 0 where
   pub into : u .into ≡ 0
   pub refusal : u .refusal ≡ t .refusal
   pub lengths : u .lengths ≡ t .lengths
-  pub holds : held u ≡ heldAfter (held t) (commandOf l .hash) (commandOf l .command)
+  pub holds : held u ≡ heldAfter (held t) (commandOf leastBlocks l .hash) (commandOf leastBlocks l .command)
 
 module _ (s : List ℕ) (terms : Terms) (h : Header) (p : Config) where
   pub going-here : OpenOrStopped s terms h p → p .state .refusal .number ≡ none → WalkLeft s terms h p
@@ -71,7 +72,7 @@ module _ (s : List ℕ) (terms : Terms) (h : Header) (p : Config) where
         let some = line-some s (p .state .at) l in
         record {
           n = g .n - 1;
-          counted = g .counted + countedBlocks (currentCommand s p);
+          counted = g .counted + countedBlocks (currentCommand leastBlocks s p);
           enough = omega (arith, g .enough, w .at);
           accepted = rw (w .holds, w .line, w .at) (going-passed .rest);
         }
@@ -133,7 +134,7 @@ module _ (s : List ℕ) (lengths : Lengths) (h : Header) where
 
   module _ (p : Config) (v : Running s lengths h p) where
     -- a line that is reached passes its checks again
-    pub running-line : p .state .refusal .number ≡ none → p .state .at < length s → refusalHere s (termsOf lengths h) p ≡ none
+    pub running-line : p .state .refusal .number ≡ none → p .state .at < length s → refusalHere leastBlocks s (termsOf lengths h) p ≡ none
     running-line z l =
         going-passed s (termsOf lengths h) h p (going-here s (termsOf lengths h) h p (v .goes) z) l .good
 
@@ -151,8 +152,8 @@ module _ (s : List ℕ) (lengths : Lengths) (h : Header) where
     unfolding refusalOf
     running-past q z l f a w =
         let line = currentLine s p in
-        let hash = commandOf line .hash in
-        let c = commandOf line .command in
+        let hash = commandOf leastBlocks line .hash in
+        let c = commandOf leastBlocks line .command in
         let e = running-line z l in
         let end = command-ended line (good-command line (termsOf lengths h) (held (p .state)) hash c e) in
         let m = line-mark s (p .state .at) (end .place) (end .text) in
@@ -186,9 +187,9 @@ module _ (s : List ℕ) (lengths : Lengths) (h : Header) where
         (halted (subst InRun (sym (ap (λ (t : State). t .refusal .number) e)) n))
 
     -- what a command that is done leaves of the state, and one that stops
-    done-past : {number : ℕ} → number ≡ none → refusalHere s (termsOf lengths h) p ≡ none →
+    done-past : {number : ℕ} → number ≡ none → refusalHere leastBlocks s (termsOf lengths h) p ≡ none →
         PastLine (currentLine s p) (p .state)
-        (stateAfter (currentLine s p) (commandOf (currentLine s p) .hash) (currentCommand s p) (p .state) number)
+        (stateAfter (currentLine s p) (commandOf leastBlocks (currentLine s p) .hash) (currentCommand leastBlocks s p) (p .state) number)
     unfolding stateAfter passed refusalOf
     done-past n e =
         rw (eq-eqb _ none n)
@@ -199,12 +200,12 @@ module _ (s : List ℕ) (lengths : Lengths) (h : Header) where
           refusal = refl;
           lengths = refl;
           holds =
-              held-after (currentLine s p) (termsOf lengths h) (tableOf (p .state)) (commandOf (currentLine s p) .hash) (v .fits .whole)
-              (v .fits .most-stashes) (command-hash (currentLine s p)) (currentCommand s p) e;
+              held-after (currentLine s p) (termsOf lengths h) (tableOf (p .state)) (commandOf leastBlocks (currentLine s p) .hash) (v .fits .whole)
+              (v .fits .most-stashes) (command-hash (currentLine s p)) (currentCommand leastBlocks s p) e;
         })
 
     stop-state : {number : ℕ} → InRun number →
-        stateAfter (currentLine s p) (commandOf (currentLine s p) .hash) (currentCommand s p) (p .state) number
+        stateAfter (currentLine s p) (commandOf leastBlocks (currentLine s p) .hash) (currentCommand leastBlocks s p) (p .state) number
         ≡ refusedWith (p .state) number 0
     unfolding stateAfter
     stop-state {number} n = rw (ne-eqb number none (in-run-some n))
@@ -219,7 +220,7 @@ module _ (s : List ℕ) (lengths : Lengths) (h : Header) where
         ⊎-elim
         (λ n. running-past q z l f a (subst (PastLine line (p .state)) (sym t) (done-past n (running-line z l))))
         (λ n. running-halted q _ n f a (t ∙ stop-state n))
-        (effect-refusal line (held (p .state)) (commandOf line .hash) (currentCommand s p) (p .areas))
+        (effect-refusal line (held (p .state)) (commandOf leastBlocks line .hash) (currentCommand leastBlocks s p) (p .areas))
 
 -- ---- where a run needs a byte
 
@@ -232,54 +233,54 @@ needs-new c n l = go (newTarget c) refl l
     go (new.Set set) e l = (set, is-new c e, l)
     go new.None e l = absurd (omega arith)
 
-new-good : (l : List ℕ) (terms : Terms) (stashes : List Stash) {set : RangeSet} → commandOf l .command ≡ command.New set →
-    refusalOf l terms stashes ≡ none → targetRefusal terms set ≡ none
+new-good : (l : List ℕ) (terms : Terms) (stashes : List Stash) {set : RangeSet} → commandOf leastBlocks l .command ≡ command.New set →
+    refusalOf leastBlocks l terms stashes ≡ none → targetRefusal terms set ≡ none
 unfolding refusalOf refusalFor
 new-good l terms stashes e r = rw e at r
 
 module _ (s : List ℕ) (terms : Terms) (p : Config) where
   -- one byte more
-  pub into-more : needsByte s terms p ≡ true → IntoNew s terms (p .state .at) (p .state .into + 1)
+  pub into-more : needsByte leastBlocks s terms p ≡ true → IntoNew s terms (p .state .at) (p .state .into + 1)
   unfolding needsByte
   into-more e =
-      let b = both-true (eqb (refusalHere s terms p) none) (ltb (p .state .into) (newBytes (currentCommand s p))) e in
-      let n = needs-new (currentCommand s p) (p .state .into) (ltb-true (p .state .into) _ (b .1)) in
+      let b = both-true (eqb (refusalHere leastBlocks s terms p) none) (ltb (p .state .into) (newBytes (currentCommand leastBlocks s p))) e in
+      let n = needs-new (currentCommand leastBlocks s p) (p .state .into) (ltb-true (p .state .into) _ (b .1)) in
       record {
         set = n .0;
         is-new = n .1;
-        good = new-good (currentLine s p) terms (held (p .state)) (n .1) (eqb-true (refusalHere s terms p) none (b .0));
+        good = new-good (currentLine s p) terms (held (p .state)) (n .1) (eqb-true (refusalHere leastBlocks s terms p) none (b .0));
         within = omega arith;
       }
 
 -- ---- the machine
 
 module _ (s : List ℕ) (lengths : Lengths) (h : Header) where
-  quiet-running : (p : Config) → Running s lengths h p → machine s (termsOf lengths h) .waits p ≡ false →
-      Running s lengths h (quietStep s (termsOf lengths h) p)
+  quiet-running : (p : Config) → Running s lengths h p → machine leastBlocks s (termsOf lengths h) .waits p ≡ false →
+      Running s lengths h (quietStep leastBlocks s (termsOf lengths h) p)
   quiet-running p v w =
-      let b = not-stopped s p (either-false (isStopped s p) (needsByte s (termsOf lengths h) p) w .0) in
+      let b = not-stopped s p (either-false (isStopped s p) (needsByte leastBlocks s (termsOf lengths h) p) w .0) in
       let e = step s (termsOf lengths h) p b (running-line s lengths h p v (b .unrefused) (b .within)) in
-      running-after s lengths h p v (quietStep s (termsOf lengths h) p) e (b .unrefused) (b .within)
+      running-after s lengths h p v (quietStep leastBlocks s (termsOf lengths h) p) e (b .unrefused) (b .within)
       (fits-sound s (termsOf lengths h) .quiet-keeps p (v .fits) w)
       (quiet-lengths s (termsOf lengths h) p (v .fits) (b .within))
 
-  put-running : (p : Config) (x : ℕ) → Running s lengths h p → machine s (termsOf lengths h) .waits p ≡ true → isStopped s p ≡ false →
-      Running s lengths h (putByte s x p)
+  put-running : (p : Config) (x : ℕ) → Running s lengths h p → machine leastBlocks s (termsOf lengths h) .waits p ≡ true → isStopped s p ≡ false →
+      Running s lengths h (putByte leastBlocks s x p)
   unfolding putByte furtherInto
   put-running p x v w e =
-      let n : needsByte s (termsOf lengths h) p ≡ true = rw e at w in
-      running-stays s lengths h p (putByte s x p) v
+      let n : needsByte leastBlocks s (termsOf lengths h) p ≡ true = rw e at w in
+      running-stays s lengths h p (putByte leastBlocks s x p) v
       (fits-sound s (termsOf lengths h) .put-keeps p x (v .fits) w e)
       (record { image = length-set (p .areas .image) _ x; stash = refl; work = refl; result = refl; patch = refl })
       (stays-further (p .state) 1)
       (inr (into-more s (termsOf lengths h) p n))
       (ongoing (v .goes))
     where
-      ongoing : OpenOrStopped s (termsOf lengths h) h p → OpenOrStopped s (termsOf lengths h) h (putByte s x p)
-      ongoing (going e g) = going e (going-stays s (termsOf lengths h) h p (putByte s x p) (stays-further (p .state) 1) g)
+      ongoing : OpenOrStopped s (termsOf lengths h) h p → OpenOrStopped s (termsOf lengths h) h (putByte leastBlocks s x p)
+      ongoing (going e g) = going e (going-stays s (termsOf lengths h) h p (putByte leastBlocks s x p) (stays-further (p .state) 1) g)
       ongoing (halted e) = halted e
 
-  pub running-sound : Sound (machine s (termsOf lengths h)) (Running s lengths h)
+  pub running-sound : Sound (machine leastBlocks s (termsOf lengths h)) (Running s lengths h)
   running-sound =
       record {
         falls = λ p v. fits-sound s (termsOf lengths h) .falls p (v .fits);

@@ -20,6 +20,7 @@ use Rattle.command.specs.Words.{wordIn}
 use Rattle.command.specs.Fields.{numberField, hashField, setField, lastSet}
 use Rattle.command.specs.Parts.{partEnd, placesFrom, partAt, partsIn, partsAt, partsField, usesIn, usesAt}
 use Rattle.command.specs.Commands.{rangeLine, withPlaces, afterBlocks, sourceFrom, sourceField, lengthFrom, targetFrom, freeFrom, hashedLine, commandOf}
+use Rattle.command.specs.Faults.{faultOf, faultByte}
 use Rattle.command.specs.Targets.{newTarget}
 use Rattle.rules.specs.Held.{heldAfter}
 use Rattle.rules.specs.Move.{sourcePast, sourceOver, usesBy, someMissing, stashBlocks, someDiffer, placesNamed, sourceDiffers, placesOf}
@@ -93,15 +94,15 @@ module _ (A B C D E F G H T1 T2 T3 W1 W2 W3 : Block) where
       rangesOf blocksAt AllBelow hexOf wordIn numberField hashField setField lastSet rangeLine withPlaces afterBlocks sourceFrom sourceField
       lengthFrom targetFrom freeFrom hashedLine commandOf partEnd placesFrom partAt partsIn partsAt partsField usesIn usesAt findIn isHeld sizeAt blocksHeld without sourcePast sourceOver usesBy someMissing stashBlocks
       someDiffer placesNamed sourceDiffers placesOf placesBy isIn someMisplaced sourcedRefusal moveRefusal freeRefusal refusalFor refusalOf stashBytes
-      spread supplied together closedUp hashesTo newTarget heldAfter zeroEffect moveEffect freeEffect effect pickedOf putAt zeroed
+      faultOf faultByte spread supplied together closedUp hashesTo newTarget heldAfter zeroEffect moveEffect freeEffect effect pickedOf putAt zeroed
   table =
       record {
         case-1 = record { sized = record { end = 5; read = refl }; order = refl };
         case-2 = record { sized = record { end = 7; read = refl }; order = refl };
-        case-3 = record { end = 247156; read = refl };
+        case-3 = refl;
         case-4 = (refl, refl, refl, refl, refl);
         case-5 = (refl, refl);
-        case-6 = (refl, refl, refl);
+        case-6 = (record { number = refl; byte = refl }, refl, record { number = refl; byte = refl }, refl);
         case-7 = λ h s.
             rw (
               hash-7 h (text " 2,1,4 3 2,0,3\n"),

@@ -11,6 +11,7 @@ use lib.Dec.{leb, eqb}
 use borrow.Author.Tests.{eqb-true, eqb-false}
 use Rattle.text.specs.Choice.{pick, either, no}
 use Rattle.text.proofs.ChoiceLaws.{bool}
+use Rattle.ranges.specs.Ranges.{leastBlocks}
 use Rattle.state.specs.Refusals.{none}
 use Rattle.state.specs.declared.Lengths.{Lengths}
 use Rattle.state.specs.declared.Refusal.{Refusal}
@@ -35,11 +36,11 @@ use Rattle.sequence.proofs.ModelLaws.{Runs}
 
 -- a call goes on, unless a refusal is held
 abbrev pub Possible : List ℕ → Config → Type 0
-Possible s p = p .state .refusal .number ≡ none → isRun s p ≡ true
+Possible s p = p .state .refusal .number ≡ none → isRun leastBlocks s p ≡ true
 
 -- ---- what a call says
 
-not-run : (s : List ℕ) (p : Config) → eqb (p .state .refusal .number) none ≡ false → isRun s p ≡ false
+not-run : (s : List ℕ) (p : Config) → eqb (p .state .refusal .number) none ≡ false → isRun leastBlocks s p ≡ false
 unfolding isRun
 not-run s p h = rw h
 
@@ -47,8 +48,8 @@ refused-stopped : (s : List ℕ) (p : Config) → eqb (p .state .refusal .number
 unfolding isStopped
 refused-stopped s p h = rw h
 
-run-possible : (s : List ℕ) (p : Config) → eqb (p .state .refusal .number) none ≡ true → isRun s p ≡ true
-    → isPossible s (lengthsAt s (p .areas)) (p .state) ≡ true
+run-possible : (s : List ℕ) (p : Config) → eqb (p .state .refusal .number) none ≡ true → isRun leastBlocks s p ≡ true
+    → isPossible leastBlocks s (lengthsAt s (p .areas)) (p .state) ≡ true
 unfolding isRun
 run-possible s p h e = rw h at e
 
@@ -82,34 +83,34 @@ module _ (s : List ℕ) (lengths : Lengths) (h : Header) where
   runs = record { sound = running-sound s lengths h; fits = λ p v. v .fits; unrefused = running-line s lengths h }
 
   abbrev machineHere : Machine
-  machineHere = machine s (termsOf lengths h)
+  machineHere = machine leastBlocks s (termsOf lengths h)
 
   -- ---- one call
 
   module _ (q : List ℕ) (p : Config) (v : Running s lengths h p) (a : Possible s p) where
-    leaves-feeds : leaves s q p ≡ feeds machineHere q p
+    leaves-feeds : leaves leastBlocks s q p ≡ feeds machineHere q p
     unfolding leaves
     leaves-feeds =
         ⊎-elim
         (λ (e : eqb (p .state .refusal .number) none ≡ true).
         rw (a (eqb-true (p .state .refusal .number) none e))
-        (ap (λ (w : Terms). feeds (machine s w) q p) (running-terms s lengths h p v)))
+        (ap (λ (w : Terms). feeds (machine leastBlocks s w) q p) (running-terms s lengths h p v)))
         (λ (e : eqb (p .state .refusal .number) none ≡ false).
         rw (not-run s p e) (sym (feeds-stopped machineHere (Running s lengths h) (runs .sound) q p v (refused-stopped s p e))))
         (bool (eqb (p .state .refusal .number) none))
 
-    takes-counts : takes s q p ≡ counts machineHere q p
+    takes-counts : takes leastBlocks s q p ≡ counts machineHere q p
     unfolding takes
     takes-counts =
         ⊎-elim
         (λ (e : eqb (p .state .refusal .number) none ≡ true).
         rw (a (eqb-true (p .state .refusal .number) none e))
-        (ap (λ (w : Terms). counts (machine s w) q p) (running-terms s lengths h p v)))
+        (ap (λ (w : Terms). counts (machine leastBlocks s w) q p) (running-terms s lengths h p v)))
         (λ (e : eqb (p .state .refusal .number) none ≡ false).
         rw (not-run s p e) (sym (counts-stopped machineHere (Running s lengths h) (runs .sound) q p v (refused-stopped s p e))))
         (bool (eqb (p .state .refusal .number) none))
 
-    says-outcome : says s q p ≡ outcomeOf s (leaves s q p .state)
+    says-outcome : says leastBlocks s q p ≡ outcomeOf s (leaves leastBlocks s q p .state)
     unfolding says leaves
     says-outcome =
         ⊎-elim
@@ -118,63 +119,63 @@ module _ (s : List ℕ) (lengths : Lengths) (h : Header) where
         (λ (e : eqb (p .state .refusal .number) none ≡ false). rw (e, not-run s p e))
         (bool (eqb (p .state .refusal .number) none))
 
-    leaves-running : Running s lengths h (leaves s q p)
+    leaves-running : Running s lengths h (leaves leastBlocks s q p)
     leaves-running = rw leaves-feeds (feeds-keeps machineHere (Running s lengths h) (runs .sound) q p v)
 
-    leaves-possible : Possible s (leaves s q p)
+    leaves-possible : Possible s (leaves leastBlocks s q p)
     leaves-possible e =
-        let w : machineHere .waits (leaves s q p) ≡ true = rw leaves-feeds (feeds-waits machineHere (Running s lengths h) (runs .sound) q p v) in
-        running-possible s lengths h (leaves s q p) leaves-running (running-into s lengths h (leaves s q p) leaves-running w e) e
+        let w : machineHere .waits (leaves leastBlocks s q p) ≡ true = rw leaves-feeds (feeds-waits machineHere (Running s lengths h) (runs .sound) q p v) in
+        running-possible s lengths h (leaves leastBlocks s q p) leaves-running (running-into s lengths h (leaves leastBlocks s q p) leaves-running w e) e
 
   -- ---- calls, one to a piece
 
-  leaves-all : (qs : List (List ℕ)) (p : Config) → Running s lengths h p → Possible s p → leavesAll s qs p ≡ calls machineHere qs p
+  leaves-all : (qs : List (List ℕ)) (p : Config) → Running s lengths h p → Possible s p → leavesAll leastBlocks s qs p ≡ calls machineHere qs p
   unfolding leavesAll calls
   leaves-all [] p v a = refl
   leaves-all (q ∷ qs) p v a =
-      leaves-all qs (leaves s q p) (leaves-running q p v a) (leaves-possible q p v a) ∙ ap (calls machineHere qs) (leaves-feeds q p v a)
+      leaves-all qs (leaves leastBlocks s q p) (leaves-running q p v a) (leaves-possible q p v a) ∙ ap (calls machineHere qs) (leaves-feeds q p v a)
 
-  takes-all : (qs : List (List ℕ)) (p : Config) → Running s lengths h p → Possible s p → takesAll s qs p ≡ totals machineHere qs p
+  takes-all : (qs : List (List ℕ)) (p : Config) → Running s lengths h p → Possible s p → takesAll leastBlocks s qs p ≡ totals machineHere qs p
   unfolding takesAll totals
   takes-all [] p v a = refl
   takes-all (q ∷ qs) p v a =
       let b = takes-counts q p v a in
-      let c = takes-all qs (leaves s q p) (leaves-running q p v a) (leaves-possible q p v a) in
+      let c = takes-all qs (leaves leastBlocks s q p) (leaves-running q p v a) (leaves-possible q p v a) in
       let d = ap (totals machineHere qs) (leaves-feeds q p v a) in
       omega arith
 
   pub last-says : (q : List ℕ) (qs : List (List ℕ)) (p : Config) → Running s lengths h p → Possible s p
-      → lastSays s q qs p ≡ outcomeOf s (leavesAll s (q ∷ qs) p .state)
+      → lastSays leastBlocks s q qs p ≡ outcomeOf s (leavesAll leastBlocks s (q ∷ qs) p .state)
   unfolding lastSays leavesAll
   last-says q [] p v a = says-outcome q p v a
-  last-says q (r ∷ qs) p v a = last-says r qs (leaves s q p) (leaves-running q p v a) (leaves-possible q p v a)
+  last-says q (r ∷ qs) p v a = last-says r qs (leaves leastBlocks s q p) (leaves-running q p v a) (leaves-possible q p v a)
 
   -- a call whose outcome is more took its whole piece
-  pub last-whole : (q : List ℕ) (qs : List (List ℕ)) (p : Config) → Running s lengths h p → Possible s p → lastSays s q qs p ≡ outcome.More
-      → lastTakes s q qs p ≡ length (lastPiece q qs)
+  pub last-whole : (q : List ℕ) (qs : List (List ℕ)) (p : Config) → Running s lengths h p → Possible s p → lastSays leastBlocks s q qs p ≡ outcome.More
+      → lastTakes leastBlocks s q qs p ≡ length (lastPiece q qs)
   unfolding lastSays lastTakes lastPiece
   last-whole q [] p v a e =
       takes-counts q p v a
       ∙ counts-all machineHere (Running s lengths h) (runs .sound) q p v
       (more-goes s (feeds machineHere q p)
       (ap (λ (m : Config). outcomeOf s (m .state)) (sym (leaves-feeds q p v a)) ∙ sym (says-outcome q p v a) ∙ e))
-  last-whole q (r ∷ qs) p v a e = last-whole r qs (leaves s q p) (leaves-running q p v a) (leaves-possible q p v a) e
+  last-whole q (r ∷ qs) p v a e = last-whole r qs (leaves leastBlocks s q p) (leaves-running q p v a) (leaves-possible q p v a) e
 
   module _ (q : List ℕ) (qs : List (List ℕ)) (p : Config) (v : Running s lengths h p) (a : Possible s p) where
     -- one call or more end as one call over all the bytes does
-    pub leaves-joined : leavesAll s (q ∷ qs) p ≡ feeds machineHere (joined (q ∷ qs)) p
+    pub leaves-joined : leavesAll leastBlocks s (q ∷ qs) p ≡ feeds machineHere (joined (q ∷ qs)) p
     leaves-joined = leaves-all (q ∷ qs) p v a ∙ calls-joined machineHere (Running s lengths h) (runs .sound) qs q p v
 
-    pub takes-joined : takesAll s (q ∷ qs) p ≡ counts machineHere (joined (q ∷ qs)) p
+    pub takes-joined : takesAll leastBlocks s (q ∷ qs) p ≡ counts machineHere (joined (q ∷ qs)) p
     takes-joined = takes-all (q ∷ qs) p v a ∙ totals-joined machineHere (Running s lengths h) (runs .sound) (q ∷ qs) p v
 
-    pub last-running : Running s lengths h (leavesAll s (q ∷ qs) p)
+    pub last-running : Running s lengths h (leavesAll leastBlocks s (q ∷ qs) p)
     last-running = rw leaves-joined (feeds-keeps machineHere (Running s lengths h) (runs .sound) (joined (q ∷ qs)) p v)
 
-    pub last-only : {refused : Refusal} → lastSays s q qs p ≡ outcome.Refused refused → InRun (refused .number)
+    pub last-only : {refused : Refusal} → lastSays leastBlocks s q qs p ≡ outcome.Refused refused → InRun (refused .number)
     last-only e =
-        let f = refused-number s (leavesAll s (q ∷ qs) p .state) (sym (last-says q qs p v a) ∙ e) in
+        let f = refused-number s (leavesAll leastBlocks s (q ∷ qs) p .state) (sym (last-says q qs p v a) ∙ e) in
         ⊎-elim
         (λ z. absurd (f .0 z))
         (λ z. subst InRun (ap (λ (r : Refusal). r .number) (f .1)) z)
-        (running-only s lengths h (leavesAll s (q ∷ qs) p) last-running)
+        (running-only s lengths h (leavesAll leastBlocks s (q ∷ qs) p) last-running)

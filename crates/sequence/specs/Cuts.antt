@@ -6,6 +6,7 @@ use Prim.Native.Nat.{ℕ}
 use lib.ListN.{take, drop}
 use lib.Dec.{eqb}
 use Rattle.text.specs.Choice.{pick}
+use Rattle.ranges.specs.Ranges.{leastBlocks}
 use Rattle.state.specs.Refusals.{none}
 use Rattle.transfer_list.specs.Opening.{openRefusal}
 use Rattle.updater.specs.Areas.{Areas}
@@ -29,18 +30,18 @@ laterPieces bytes (n ∷ ns) = firstPiece (drop n bytes) ns ∷ laterPieces (dro
 -- the calls over a piece and those after it: what stands after the last, what it says, and the sum of bytes taken
 abbrev pub callsOver : List ℕ → List ℕ → List (List ℕ) → Config → Result
 callsOver s q qs p =
-    resultOf (leavesAll s (q ∷ qs) p .areas)
-    (record { state = leavesAll s (q ∷ qs) p .state; outcome = lastSays s q qs p; taken = takesAll s (q ∷ qs) p })
+    resultOf (leavesAll leastBlocks s (q ∷ qs) p .areas)
+    (record { state = leavesAll leastBlocks s (q ∷ qs) p .state; outcome = lastSays leastBlocks s q qs p; taken = takesAll leastBlocks s (q ∷ qs) p })
 
 -- a refused opening changes nothing and takes nothing
 abbrev pub openRefused : List ℕ → Areas → Result
 openRefused s a =
-    resultOf a (record { state = openedConfig s a .state; outcome = outcome.Refused (openRefusal s (lengthsAt s a)); taken = 0 })
+    resultOf a (record { state = openedConfig s a .state; outcome = outcome.Refused (openRefusal leastBlocks s (lengthsAt s a)); taken = 0 })
 
 -- an opening, and the calls over the pieces that the cuts make of the data
 unfoldable pub runCuts : List ℕ → Areas → List ℕ → List ℕ → Result
 runCuts s a bytes cuts =
-    pick (eqb (openRefusal s (lengthsAt s a) .number) none)
+    pick (eqb (openRefusal leastBlocks s (lengthsAt s a) .number) none)
     (callsOver s (firstPiece bytes cuts) (laterPieces bytes cuts) (openedConfig s a))
     (openRefused s a)
 
@@ -53,11 +54,11 @@ pub record RunAgrees (s : List ℕ) (a : Areas) (r : Result) (m : Model) : Type 
 
 -- what a run over cuts leaves and answers, on an accepted list, is what the model gives for all the data, whatever the cuts
 abbrev pub RunMeets : List ℕ → Areas → List ℕ → Result → Type 0
-RunMeets s a bytes r = Accepted s a → RunAgrees s a r (model s a bytes)
+RunMeets s a bytes r = Accepted s a → RunAgrees s a r (model leastBlocks s a bytes)
 
 -- THE CLAIM, of a run over cuts
 pub record CutClaim : Type 0 where
   pub agrees : (s : List ℕ) (a : Areas) → Accepted s a → (bytes cuts : List ℕ) →
-      RunAgrees s a (runCuts s a bytes cuts) (model s a bytes)
+      RunAgrees s a (runCuts s a bytes cuts) (model leastBlocks s a bytes)
   -- so no cut can be told from another by what comes of it
   pub alike : (s : List ℕ) (a : Areas) → Accepted s a → (bytes cuts others : List ℕ) → runCuts s a bytes cuts ≡ runCuts s a bytes others

@@ -8,6 +8,7 @@ use Prim.Native.Nat.{ℕ, _-_, _/_, _≤_}
 use lib.ListN.{length, getD}
 use Rattle.text.specs.Line.{lineAt}
 use Rattle.text.specs.Expected.{lf}
+use Rattle.ranges.specs.Ranges.{leastBlocks}
 use Rattle.state.specs.Limits.{blockBytes}
 use Rattle.state.specs.Stashes.{Stash}
 use Rattle.command.specs.Commands.{commandOf}
@@ -54,7 +55,7 @@ resultLength command.Unsupported = 0
 resultLength (command.Bad p) = 0
 
 abbrev pub commandAt : List ℕ → ℕ → Command
-commandAt s at = commandOf (lineAt s at) .command
+commandAt s at = commandOf leastBlocks (lineAt s at) .command
 
 -- line 4
 unfoldable pub mostBlocks : HeaderRead → ℕ

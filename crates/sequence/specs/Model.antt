@@ -112,10 +112,10 @@ doLine next l line m xs =
     (doEffect next l line m xs (effect l (m .stashes) (line .hash) (line .command) (m .areas)))
 
 -- n lines at most: it ends at the text's end, staying at the current line
-unfoldable pub runLines : ℕ → List ℕ → Model → List ℕ → Model
-runLines zero s m xs = m
-runLines (suc n) s m xs =
-    pick (leb (length s) (m .at)) m (doLine (runLines n s) (lineAt s (m .at)) (commandOf (lineAt s (m .at))) m xs)
+unfoldable pub runLines : ℕ → ℕ → List ℕ → Model → List ℕ → Model
+runLines least zero s m xs = m
+runLines least (suc n) s m xs =
+    pick (leb (length s) (m .at)) m (doLine (runLines least n s) (lineAt s (m .at)) (commandOf least (lineAt s (m .at))) m xs)
 
 -- it starts at the first command line with no stash, both counts 0 and no refusal
 unfoldable pub modelStart : List ℕ → Areas → Model
@@ -131,8 +131,8 @@ modelStart s areas =
     }
 
 -- where it ends; each line has a byte or more, so a text has fewer lines than this
-unfoldable pub model : List ℕ → Areas → List ℕ → Model
-model s areas joined = runLines (suc (length s)) s (modelStart s areas) joined
+unfoldable pub model : ℕ → List ℕ → Areas → List ℕ → Model
+model least s areas joined = runLines least (suc (length s)) s (modelStart s areas) joined
 
 -- refused, at the text's end done, else more
 abbrev pub modelOutcome : List ℕ → Model → Outcome

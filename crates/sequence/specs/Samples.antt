@@ -1,5 +1,6 @@
 -- Document 01, "Sample lists": cases 1 to 13, in one table. They are about the rules themselves: how range sets and lines are read, what a
--- line is refused for, and what the model does with it. In 7 and 8 the hash is taken to match, whatever it is.
+-- line is refused for, and what the model does with it. Document 02, R-7: 3 and 6 are refusals. In 7 and 8 the hash is taken to match,
+-- whatever it is.
 -- Assumes nothing: these are definitions.
 use mathlib.Core.Path.{_≡_}
 use mathlib.Core.List.{List, [], _∷_, _++_}
@@ -12,19 +13,20 @@ use Rattle.sha1.specs.Sha1.{sha1}
 use Rattle.text.specs.Choice.{pick}
 use Rattle.text.specs.Hash.{hashBytes}
 use Rattle.text.specs.Hex.{hexOf}
-use Rattle.ranges.specs.Ranges.{rangesAt}
+use Rattle.ranges.specs.Ranges.{leastBlocks, rangesAt}
 use Rattle.ranges.specs.Walk.{blocksAt, AllBelow}
 use Rattle.ranges.specs.declared.Ranges.the-variants as ranges
 use Rattle.state.specs.Limits.{blockBytes}
-use Rattle.state.specs.Refusals.{none}
+use Rattle.state.specs.Refusals.{none, lineForm}
 use Rattle.state.specs.Stashes.{Stash, blocksHeld}
 use Rattle.command.specs.Commands.{commandOf}
+use Rattle.command.specs.Faults.{faultByte}
 use Rattle.rules.specs.Rules.{refusalOf}
 use Rattle.rules.specs.declared.Terms.{Terms}
 use Rattle.state.specs.States.{noRefusal}
 use Rattle.transfer_list.specs.Header.{firstLine}
 use Rattle.updater.specs.Areas.{areasOf}
-use Rattle.sequence.specs.Model.{Model, lineEnds, doLine}
+use Rattle.sequence.specs.Model.{Model, doLine}
 
 -- the bytes of a text of plain characters
 abbrev pub text : String → List ℕ
@@ -58,7 +60,7 @@ hex h = hexOf hashBytes (h .bytes)
 -- the whole text is a range set of n blocks
 pub record Sized (t : List ℕ) (n : ℕ) : Type 0 where
   pub end : ℕ
-  pub read : rangesAt t 0 ≡ ranges.Good (record { at = 0; blocks = n; end = end }) (length t)
+  pub read : rangesAt leastBlocks t 0 ≡ ranges.Good (record { at = 0; blocks = n; end = end }) (length t)
 
 -- the whole text is a range set of these blocks
 pub record Names (t blocks : List ℕ) : Type 0 where
@@ -67,7 +69,12 @@ pub record Names (t blocks : List ℕ) : Type 0 where
 
 -- no range set stands at the text's start, and its fault is at that position (document 02, R-6)
 abbrev pub IllFormed : List ℕ → ℕ → Type 0
-IllFormed t fault = rangesAt t 0 ≡ ranges.Bad fault
+IllFormed t fault = rangesAt leastBlocks t 0 ≡ ranges.Bad fault
+
+-- the line is ill formed, and its fault is at that position
+pub record IllFormedLine (l : List ℕ) (terms : Terms) (fault : ℕ) : Type 0 where
+  pub number : refusalOf leastBlocks l terms [] ≡ lineForm
+  pub byte : faultByte 0 (commandOf leastBlocks l .command) ≡ fault
 
 -- what lines are checked against: an image of 8 blocks, a stash area and a work area of 3, no result area and no patch data
 abbrev pub terms : Terms
@@ -76,7 +83,7 @@ terms = record { image = 8; work = 3; result = 0; patch = 0; stashes = 3; blocks
 -- what a line leaves, with those bytes of new data not yet taken: it is checked, then the model does it; a refused one changes nothing
 abbrev pub done : List ℕ → Model → List ℕ → Model
 done l m new =
-    pick (eqb (refusalOf l terms (m .stashes)) none) (doLine (λ left rest. left) l (commandOf l) m new) m
+    pick (eqb (refusalOf leastBlocks l terms (m .stashes)) none) (doLine (λ left rest. left) l (commandOf leastBlocks l) m new) m
 
 -- a stash of n blocks, held under a hash
 abbrev pub stashOf : Digest → ℕ → Stash
@@ -106,8 +113,8 @@ module _ (A B C D E F G H T1 T2 T3 W1 W2 W3 : Block) where
     pub case-1 : Names (text "2,3,5") (3 ∷ 4 ∷ [])
     -- 2. `4,6,7,1,3` is 6, 1, 2.
     pub case-2 : Names (text "4,6,7,1,3") (6 ∷ 1 ∷ 2 ∷ [])
-    -- 3. `6,247114,247116,247150,247155,247156,247156` has 7 blocks (000).
-    pub case-3 : Sized (text "6,247114,247116,247150,247155,247156,247156") 7
+    -- 3. `6,247114,247116,247150,247155,247156,247156`: ill formed, at its end; a further digit could still follow.
+    pub case-3 : IllFormed (text "6,247114,247116,247150,247155,247156,247156") 43
     -- 4. `2,5,3`, `3,1,2,3`, `0`, `4,1,2`, `2,01,2`: ill formed.
     pub case-4 :
         IllFormed (text "2,5,3") 5
@@ -116,12 +123,13 @@ module _ (A B C D E F G H T1 T2 T3 W1 W2 W3 : Block) where
         × IllFormed (text "4,1,2") 5
         × IllFormed (text "2,01,2") 3
     -- 5. `zero 2,7,8` good; `2,7,9` gives 8.
-    pub case-5 : (refusalOf (text "zero 2,7,8\n") terms [] ≡ none) × (refusalOf (text "zero 2,7,9\n") terms [] ≡ 8)
-    -- 6. `zero 2,8,8` good, changes nothing; `2,9,9` gives 8.
+    pub case-5 : (refusalOf leastBlocks (text "zero 2,7,8\n") terms [] ≡ none) × (refusalOf leastBlocks (text "zero 2,7,9\n") terms [] ≡ 8)
+    -- 6. `zero 2,8,8` and `zero 2,9,9`: ill formed, at the LF; nothing changes.
     pub case-6 :
-        (refusalOf (text "zero 2,8,8\n") terms [] ≡ none)
-        × (done (text "zero 2,8,8\n") start [] ≡ lineEnds (text "zero 2,8,8\n") start)
-        × (refusalOf (text "zero 2,9,9\n") terms [] ≡ 8)
+        IllFormedLine (text "zero 2,8,8\n") terms 10
+        × (done (text "zero 2,8,8\n") start [] ≡ start)
+        × IllFormedLine (text "zero 2,9,9\n") terms 10
+        × (done (text "zero 2,9,9\n") start [] ≡ start)
     -- 7. `move` to `2,1,4` of `3 2,0,3`: A A B C E F G H.
     pub case-7 : (h : Digest) → sha1 (bytesOf (A ∷ B ∷ C ∷ [])) ≡ h .bytes →
         done (text "move " ++ hex h ++ text " 2,1,4 3 2,0,3\n") start [] .areas .image ≡ bytesOf (A ∷ A ∷ B ∷ C ∷ E ∷ F ∷ G ∷ H ∷ [])
@@ -132,7 +140,7 @@ module _ (A B C D E F G H T1 T2 T3 W1 W2 W3 : Block) where
         ≡ bytesOf (A ∷ B ∷ C ∷ D ∷ E ∷ A ∷ S ∷ B ∷ [])
     -- 9. As 8 with `X:2,0,1`: 12.
     pub case-9 : (h x : Digest) →
-        refusalOf (text "move " ++ hex h ++ text " 2,5,8 3 2,0,2 4,0,1,2,3 " ++ hex x ++ text ":2,0,1\n") terms (stashOf x 1 ∷ []) ≡ 12
+        refusalOf leastBlocks (text "move " ++ hex h ++ text " 2,5,8 3 2,0,2 4,0,1,2,3 " ++ hex x ++ text ":2,0,1\n") terms (stashOf x 1 ∷ []) ≡ 12
     -- 10. `zero 4,0,1,7,8`: 0 B C D E F G 0.
     pub case-10 : done (text "zero 4,0,1,7,8\n") start [] .areas .image ≡ bytesOf (zeros ∷ B ∷ C ∷ D ∷ E ∷ F ∷ G ∷ zeros ∷ [])
     -- 11. `new 4,2,3,6,7` after 5,000 bytes: block 2 full, 904 bytes of block 6 new, the rest still G.

@@ -7,24 +7,24 @@ use Rattle.updater.specs.Calls.{leaves, takes, says}
 use Rattle.updater.specs.declared.Outcome.{Outcome}
 
 -- what stands after the last call
-unfoldable pub leavesAll : List ℕ → List (List ℕ) → Config → Config
-leavesAll s [] p = p
-leavesAll s (q ∷ qs) p = leavesAll s qs (leaves s q p)
+unfoldable pub leavesAll : ℕ → List ℕ → List (List ℕ) → Config → Config
+leavesAll least s [] p = p
+leavesAll least s (q ∷ qs) p = leavesAll least s qs (leaves least s q p)
 
 -- the sum of bytes taken
-unfoldable pub takesAll : List ℕ → List (List ℕ) → Config → ℕ
-takesAll s [] p = 0
-takesAll s (q ∷ qs) p = takes s q p + takesAll s qs (leaves s q p)
+unfoldable pub takesAll : ℕ → List ℕ → List (List ℕ) → Config → ℕ
+takesAll least s [] p = 0
+takesAll least s (q ∷ qs) p = takes least s q p + takesAll least s qs (leaves least s q p)
 
 -- what the last call says, of q and the pieces after it
-unfoldable pub lastSays : List ℕ → List ℕ → List (List ℕ) → Config → Outcome
-lastSays s q [] p = says s q p
-lastSays s q (r ∷ qs) p = lastSays s r qs (leaves s q p)
+unfoldable pub lastSays : ℕ → List ℕ → List ℕ → List (List ℕ) → Config → Outcome
+lastSays least s q [] p = says least s q p
+lastSays least s q (r ∷ qs) p = lastSays least s r qs (leaves least s q p)
 
 -- what the last call takes
-unfoldable pub lastTakes : List ℕ → List ℕ → List (List ℕ) → Config → ℕ
-lastTakes s q [] p = takes s q p
-lastTakes s q (r ∷ qs) p = lastTakes s r qs (leaves s q p)
+unfoldable pub lastTakes : ℕ → List ℕ → List ℕ → List (List ℕ) → Config → ℕ
+lastTakes least s q [] p = takes least s q p
+lastTakes least s q (r ∷ qs) p = lastTakes least s r qs (leaves least s q p)
 
 -- the last piece
 unfoldable pub lastPiece : List ℕ → List (List ℕ) → List ℕ

@@ -25,6 +25,11 @@ pub data Written : ℕ → ℕ → List ℕ → List ℕ → Type 0 where
   last : {v : ℕ} {t : List ℕ} → Written v v t t
   more : {v w b : ℕ} {s t : List ℕ} → isDigit b ≡ true → 0 < v → then v b ≤ largest → Written (then v b) w s t → Written v w (b ∷ s) t
 
+-- more digits make no smaller number
+pub written-above : {v w : ℕ} {s t : List ℕ} → Written v w s t → v ≤ w
+written-above last = omega arith
+written-above (more d p m x) = omega (arith, written-above x)
+
 pub digit-most : (b : ℕ) → isDigit b ≡ true → b - 48 ≤ 9
 digit-most b e = omega (arith, digit-high b e)
 
@@ -62,6 +67,7 @@ pub need-holds : (n : Need) {v w : ℕ} {s t : List ℕ} → Written v w s t →
 unfolding meets canMeet
 need-holds need.Any x l e = refl
 need-holds need.Count x l e = count-holds x e
+need-holds (need.AtMost high) {v} {w} x l e = le-leb v high (omega (arith, leb-true w high e, written-above x))
 need-holds (need.AtLeast low) x l e = least-holds low x l e
 
 -- ---- a number that was read as any number is

@@ -8,10 +8,11 @@ pub enum Number {
     Bad(usize),
 }
 
-// What is asked of a number: nothing; to be the count of a range set; to be at least another number.
+// What is asked of a number: nothing; to be the count of a range set; to be at most, or at least, another number.
 pub enum Need {
     Any,
     Count,
+    AtMost(u32),
     AtLeast(u32),
 }
 
@@ -34,6 +35,7 @@ fn meets(need: Need, v: u32) -> bool
             }
             2 <= v
         }
+        Need::AtMost(high) => v <= high,
         Need::AtLeast(low) => low <= v,
     }
 }
@@ -83,6 +85,7 @@ fn can_meet(need: Need, v: u32) -> bool
             }
             v as u64 * 10 <= LARGEST
         }
+        Need::AtMost(high) => v <= high,
         Need::AtLeast(low) => can_reach(v, low),
     }
 }

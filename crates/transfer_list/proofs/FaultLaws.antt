@@ -22,6 +22,7 @@ use Rattle.text.specs.declared.number.Number.the-variants as number
 use Rattle.text.proofs.ChoiceLaws.{picks}
 use Rattle.text.proofs.ExpectedLaws.{expected-next}
 use Rattle.text.proofs.NumberLaws.{number-next, number-no-lf}
+use Rattle.ranges.specs.Ranges.{leastBlocks}
 use Rattle.state.specs.Limits.{blockBytes, mostListBytes, mostStashes}
 use Rattle.state.specs.Refusals.{none, areaSize, listLength, headerForm, otherVersion, headerLimit, lineForm, totalDiffers, hasByte}
 use Rattle.state.specs.States.{refusing, refusingAt, noRefusal}
@@ -116,7 +117,7 @@ module _ (s : List ℕ) where
   unfolding startAfter
   start-next n e f = f ∙ rw e
 
-  line-next : (line : ℕ) {at : ℕ} → 0 < line → at ≡ lineStart s line → at + length (lineAt s at) ≡ lineStart s (line + 1)
+  pub line-next : (line : ℕ) {at : ℕ} → 0 < line → at ≡ lineStart s line → at + length (lineAt s at) ≡ lineStart s (line + 1)
   line-next line w e =
       let z : line + 1 - 1 ≡ suc (line - 1) = omega arith in
       rw z (start-next (line - 1) e refl)
@@ -164,11 +165,11 @@ module _ (s : List ℕ) where
       go (number.Bad q) h = absurd (let z : _≡_ {A = ℕ} 0 1 = cc in omega arith)
 
   -- a line that is not refused is good
-  pub command-line-good : (at : ℕ) (terms : Terms) (held : List Stash) → refusalOf (lineAt s at) terms held ≡ none → CommandLine (lineAt s at)
+  pub command-line-good : (at : ℕ) (terms : Terms) (held : List Stash) → refusalOf leastBlocks (lineAt s at) terms held ≡ none → CommandLine (lineAt s at)
   unfolding refusalOf
   command-line-good at terms held e =
       let l = lineAt s at in
-      subst (Found CommandLine at l) (unrefused-good at l terms held (commandOf l .hash) (commandOf l .command) e) (command-found s at)
+      subst (Found CommandLine at l) (unrefused-good at l terms held (commandOf leastBlocks l .hash) (commandOf leastBlocks l .command) e) (command-found s at)
 
   -- ---- 3
 
@@ -217,10 +218,10 @@ module _ (s : List ℕ) where
       (λ blocks first l₄ g₄ h₄. absurd (let z : _≡_ {A = ℕ} 0 1 = cc in omega arith)))))
 
   -- the command lines start with the fifth line, and the four before it are good
-  abbrev Fifth : ℕ → Type 0
+  abbrev pub Fifth : ℕ → Type 0
   Fifth first = (first ≡ lineStart s firstLine) × GoodBefore s firstLine
 
-  first-start : {h : Header} → headerOf s ≡ header.Good h → Fifth (h .first)
+  pub first-start : {h : Header} → headerOf s ≡ header.Good h → Fifth (h .first)
   unfolding headerOf startAfter
   first-start e =
       line-then (headerLineAt s 0) _ _ e (λ version i l₁ e₁.
@@ -267,19 +268,19 @@ module _ (s : List ℕ) where
   unfolding findingAt faultByte faultOf
   first-of at c e f = rw e (subst (λ (d : Command). Found CommandLine at (lineAt s at) (findingAt at d)) e f)
 
-  pub line-fault : (at : ℕ) {p : ℕ} → at ≤ length s → commandOf (lineAt s at) .command ≡ Bad p →
-      FaultAt CommandLine s at (faultByte at (commandOf (lineAt s at) .command))
+  pub line-fault : (at : ℕ) {p : ℕ} → at ≤ length s → commandOf leastBlocks (lineAt s at) .command ≡ Bad p →
+      FaultAt CommandLine s at (faultByte at (commandOf leastBlocks (lineAt s at) .command))
   line-fault at h e =
-      let f = first-of at (commandOf (lineAt s at) .command) e (command-found s at) in
+      let f = first-of at (commandOf leastBlocks (lineAt s at) .command) e (command-found s at) in
       record { first = f; place = fault-at CommandLine command-ends s at h f }
 
   line-reports : (terms : Terms) (line at : ℕ) (held : List Stash) → firstLine ≤ line → at < length s → at ≡ lineStart s line →
-      GoodBefore s line → Reports s (lineRefusal s terms line at held)
+      GoodBefore s line → Reports s (lineRefusal leastBlocks s terms line at held)
   unfolding refusalOf
   line-reports terms line at held n w e before =
       let l = lineAt s at in
-      let hash = commandOf l .hash in
-      let c = commandOf l .command in
+      let hash = commandOf leastBlocks l .hash in
+      let c = commandOf leastBlocks l .command in
       ⊎-elim
       (λ b.
       let number : refusalFor l terms held hash c ≡ lineForm = form-is l terms held hash (b .1) in
@@ -298,33 +299,33 @@ module _ (s : List ℕ) where
       (λ t. plain-reports s none 0 refl)
 
   lines-report : (n : ℕ) (terms : Terms) (h : Header) (line at : ℕ) (held : List Stash) (counted : ℕ) → firstLine ≤ line →
-      at ≡ lineStart s line → GoodBefore s line → Reports s (linesRefusal n s terms h line at held counted)
+      at ≡ lineStart s line → GoodBefore s line → Reports s (linesRefusal leastBlocks n s terms h line at held counted)
   unfolding linesRefusal
   lines-report zero terms h line at held counted w e before = total-reports h counted
   lines-report (suc n) terms h line at held counted w e before =
       picks (Reports s) (leb (length s) at) (totalRefusal h counted) _ (λ t. total-reports h counted)
-      (λ t. picks (Reports s) (eqb (refusalOf (lineAt s at) terms held) none) _ (lineRefusal s terms line at held)
+      (λ t. picks (Reports s) (eqb (refusalOf leastBlocks (lineAt s at) terms held) none) _ (lineRefusal leastBlocks s terms line at held)
       (λ u. let z : line + 1 ≡ suc line = omega arith in
       lines-report n terms h (line + 1) (at + length (lineAt s at)) _ _ (omega arith) (line-next line (omega arith) e)
-      (rw z (good-command line e before w (command-line-good at terms held (eqb-true (refusalOf (lineAt s at) terms held) none u)))))
+      (rw z (good-command line e before w (command-line-good at terms held (eqb-true (refusalOf leastBlocks (lineAt s at) terms held) none u)))))
       (λ u. line-reports terms line at held w (omega (arith, leb-false (length s) at t)) e before))
 
   -- ---- an opening
 
-  open-reports : (lengths : Lengths) → Reports s (openRefusal s lengths)
+  open-reports : (lengths : Lengths) → Reports s (openRefusal leastBlocks s lengths)
   unfolding openRefusal commandsRefusal
   open-reports lengths =
-      picks (Reports s) (eqb (startRefusal s lengths .number) none) (commandsRefusal s lengths (headerOf s)) (startRefusal s lengths)
+      picks (Reports s) (eqb (startRefusal s lengths .number) none) (commandsRefusal leastBlocks s lengths (headerOf s)) (startRefusal s lengths)
       (λ t. go (headerOf s) refl) (λ t. start-reports lengths)
     where
-      go : (read : HeaderRead) → headerOf s ≡ read → Reports s (commandsRefusal s lengths read)
+      go : (read : HeaderRead) → headerOf s ≡ read → Reports s (commandsRefusal leastBlocks s lengths read)
       go (header.Good h) e = let f = first-start e in lines-report (suc (length s)) (termsOf lengths h) h firstLine (h .first) [] 0 (omega arith) (f .0) (f .1)
       go (header.Bad line byte) e = plain-reports s none 0 refl
 
   -- the refusal that an opening's state holds: 3 and 6 name the first line that is not good, and report the first byte at which no good line
   -- could go on; every other number reports no byte
-  pub opening-reports : (lengths : Lengths) → Reports s (openState s lengths .refusal)
+  pub opening-reports : (lengths : Lengths) → Reports s (openState leastBlocks s lengths .refusal)
   unfolding openState acceptedState refusedState
   opening-reports lengths =
-      picks (λ (t : State). Reports s (t .refusal)) (eqb (openRefusal s lengths .number) none) (acceptedState s lengths)
-      (refusedState (openRefusal s lengths)) (λ t. plain-reports s none 0 refl) (λ t. open-reports lengths)
+      picks (λ (t : State). Reports s (t .refusal)) (eqb (openRefusal leastBlocks s lengths .number) none) (acceptedState s lengths)
+      (refusedState (openRefusal leastBlocks s lengths)) (λ t. plain-reports s none 0 refl) (λ t. open-reports lengths)

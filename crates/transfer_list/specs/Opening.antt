@@ -58,30 +58,30 @@ unfoldable pub totalRefusal : Header → ℕ → Refusal
 totalRefusal h counted = firstOf (no (eqb counted (h .total)) ⇒ refusing totalDiffers 2 ∷ []) noRefusal
 
 -- a line that is refused, which starts at `at`: its number, and where it is ill formed the byte of its fault (R-6)
-abbrev pub lineRefusal : List ℕ → Terms → ℕ → ℕ → List Stash → Refusal
-lineRefusal s terms line at held =
-    refusingAt (refusalOf (lineAt s at) terms held) line (faultByte at (commandOf (lineAt s at) .command))
+abbrev pub lineRefusal : ℕ → List ℕ → Terms → ℕ → ℕ → List Stash → Refusal
+lineRefusal least s terms line at held =
+    refusingAt (refusalOf least (lineAt s at) terms held) line (faultByte at (commandOf least (lineAt s at) .command))
 
 -- lines go top to bottom, n of them at most: from the line that starts at `at`, with what is held there and what line 2 counts so far
-unfoldable pub linesRefusal : ℕ → List ℕ → Terms → Header → ℕ → ℕ → List Stash → ℕ → Refusal
-linesRefusal zero s terms h line at held counted = totalRefusal h counted
-linesRefusal (suc n) s terms h line at held counted =
+unfoldable pub linesRefusal : ℕ → ℕ → List ℕ → Terms → Header → ℕ → ℕ → List Stash → ℕ → Refusal
+linesRefusal least zero s terms h line at held counted = totalRefusal h counted
+linesRefusal least (suc n) s terms h line at held counted =
     pick (leb (length s) at) (totalRefusal h counted)
-    (pick (eqb (refusalOf (lineAt s at) terms held) none)
-    (linesRefusal n s terms h (line + 1) (at + length (lineAt s at))
-    (heldAfter held (commandOf (lineAt s at) .hash) (commandOf (lineAt s at) .command))
-    (counted + countedBlocks (commandOf (lineAt s at) .command)))
-    (lineRefusal s terms line at held))
+    (pick (eqb (refusalOf least (lineAt s at) terms held) none)
+    (linesRefusal least n s terms h (line + 1) (at + length (lineAt s at))
+    (heldAfter held (commandOf least (lineAt s at) .hash) (commandOf least (lineAt s at) .command))
+    (counted + countedBlocks (commandOf least (lineAt s at) .command)))
+    (lineRefusal least s terms line at held))
 
 -- the command lines; a text has fewer of them than characters
-unfoldable pub commandsRefusal : List ℕ → Lengths → HeaderRead → Refusal
-commandsRefusal s lengths (Good h) = linesRefusal (suc (length s)) s (termsOf lengths h) h firstLine (h .first) [] 0
-commandsRefusal s lengths (Bad line byte) = noRefusal
+unfoldable pub commandsRefusal : ℕ → List ℕ → Lengths → HeaderRead → Refusal
+commandsRefusal least s lengths (Good h) = linesRefusal least (suc (length s)) s (termsOf lengths h) h firstLine (h .first) [] 0
+commandsRefusal least s lengths (Bad line byte) = noRefusal
 
 -- 1 to 5, then the command lines
-unfoldable pub openRefusal : List ℕ → Lengths → Refusal
-openRefusal s lengths =
-    pick (eqb (startRefusal s lengths .number) none) (commandsRefusal s lengths (headerOf s)) (startRefusal s lengths)
+unfoldable pub openRefusal : ℕ → List ℕ → Lengths → Refusal
+openRefusal least s lengths =
+    pick (eqb (startRefusal s lengths .number) none) (commandsRefusal least s lengths (headerOf s)) (startRefusal s lengths)
 
 -- where the command lines start
 unfoldable pub firstAt : HeaderRead → ℕ
@@ -105,6 +105,6 @@ lengthsOf s image stash work result patch =
     record { list = length s; image = image; stash = stash; work = work; result = result; patch = patch }
 
 -- what an opening gives: the state, which holds its refusal, if any
-unfoldable pub openState : List ℕ → Lengths → State
-openState s lengths =
-    pick (eqb (openRefusal s lengths .number) none) (acceptedState s lengths) (refusedState (openRefusal s lengths))
+unfoldable pub openState : ℕ → List ℕ → Lengths → State
+openState least s lengths =
+    pick (eqb (openRefusal least s lengths .number) none) (acceptedState s lengths) (refusedState (openRefusal least s lengths))

@@ -3,6 +3,7 @@ ghost use mathlib.Core.Path.{_≡_};
 ghost use mathlib.Core.List.{[]};
 ghost use Prim.Native.Nat.{suc, _≤_};
 ghost use lib.ListN.{length};
+ghost use Rattle.ranges.specs.Ranges.{leastBlocks};
 ghost use Rattle.state.specs.Limits.{mostListBytes, mostStashes};
 ghost use Rattle.state.specs.States.{stateAt};
 ghost use Rattle.transfer_list.specs.Header.{firstLine};
@@ -89,7 +90,7 @@ fn state_at(line: usize, at: usize, refusal: Refusal, lengths: Lengths) -> State
 // The command lines, top to bottom.
 fn check_lines(list: &[u8], terms: Terms, h: Header) -> Refusal
     requires { ⌜ (length (now list) ≤ mostListBytes) × (terms .stashes ≤ mostStashes) ⌝ }
-    ensures { λ r. ⌜ r ≡ linesRefusal (suc (length (now (list .entry)))) (now (list .entry)) terms h firstLine (h .first) [] 0 ⌝ }
+    ensures { λ r. ⌜ r ≡ linesRefusal leastBlocks (suc (length (now (list .entry)))) (now (list .entry)) terms h firstLine (h .first) [] 0 ⌝ }
 {
     let mut hashes = [0u8; TABLE_BYTES];
     let mut sizes = [0usize; MOST_STASHES];
@@ -135,7 +136,7 @@ fn check_lines(list: &[u8], terms: Terms, h: Header) -> Refusal
 
 // The refusal of an opening; number 0 for an accepted one.
 fn check_list(list: &[u8], lengths: Lengths) -> Refusal
-    ensures { λ r. ⌜ r ≡ openRefusal (now (list .entry)) lengths ⌝ }
+    ensures { λ r. ⌜ r ≡ openRefusal leastBlocks (now (list .entry)) lengths ⌝ }
 {
     let start = check_start(list, lengths);
     if start.number != 0 {
@@ -161,7 +162,7 @@ pub fn open(
     result: usize,
     patch: usize,
 ) -> State
-    ensures { λ r. ⌜ r ≡ openState (now (list .entry)) (lengthsOf (now (list .entry)) image stash work result patch) ⌝ }
+    ensures { λ r. ⌜ r ≡ openState leastBlocks (now (list .entry)) (lengthsOf (now (list .entry)) image stash work result patch) ⌝ }
 {
     let lengths = Lengths {
         list: list.len(),

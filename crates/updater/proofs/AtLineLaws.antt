@@ -8,6 +8,7 @@ use native.Mathlib.Nat.{add-zero}
 use native.Mathlib.Omega.{arith}
 use borrow.Author.Tests.{lt-ltb, le-ltb, lt-leb, eq-eqb, ne-eqb}
 use lib.ListN.{length}
+use Rattle.ranges.specs.Ranges.{leastBlocks}
 use Rattle.state.specs.Refusals.{none}
 use Rattle.command.specs.Commands.{commandOf}
 use Rattle.rules.specs.declared.Terms.{Terms}
@@ -21,7 +22,7 @@ use Rattle.updater.proofs.FitLaws.{NotStopped}
 
 -- what the current line does
 abbrev pub stepHere : List ℕ → Config → Config
-stepHere s p = after (currentLine s p) (commandOf (currentLine s p) .hash) (currentCommand s p) p
+stepHere s p = after (currentLine s p) (commandOf leastBlocks (currentLine s p) .hash) (currentCommand leastBlocks s p) p
 
 module _ (s : List ℕ) (terms : Terms) (p : Config) (g : NotStopped s p) where
   pub goes-on : isStopped s p ≡ false
@@ -29,28 +30,28 @@ module _ (s : List ℕ) (terms : Terms) (p : Config) (g : NotStopped s p) where
   goes-on = rw (eq-eqb (p .state .refusal .number) none (g .unrefused), lt-leb (length s) (p .state .at) (g .within))
 
   -- a line that is refused
-  module _ (n : refusalHere s terms p ≡ none → ⊥) where
-    pub refused-moves : machine s terms .waits p ≡ false
+  module _ (n : refusalHere leastBlocks s terms p ≡ none → ⊥) where
+    pub refused-moves : machine leastBlocks s terms .waits p ≡ false
     unfolding needsByte
-    refused-moves = rw (goes-on, ne-eqb (refusalHere s terms p) none n)
+    refused-moves = rw (goes-on, ne-eqb (refusalHere leastBlocks s terms p) none n)
 
-    pub refused-step : quietStep s terms p ≡ refusedAt (refusalHere s terms p) (faultHere s p) p
+    pub refused-step : quietStep leastBlocks s terms p ≡ refusedAt (refusalHere leastBlocks s terms p) (faultHere leastBlocks s p) p
     unfolding quietStep
-    refused-step = rw (ne-eqb (refusalHere s terms p) none n)
+    refused-step = rw (ne-eqb (refusalHere leastBlocks s terms p) none n)
 
   -- .. and one that is not
-  module _ (e : refusalHere s terms p ≡ none) where
-    pub moves : newBytes (currentCommand s p) ≤ p .state .into → machine s terms .waits p ≡ false
+  module _ (e : refusalHere leastBlocks s terms p ≡ none) where
+    pub moves : newBytes (currentCommand leastBlocks s p) ≤ p .state .into → machine leastBlocks s terms .waits p ≡ false
     unfolding needsByte
-    moves h = rw (goes-on, eq-eqb (refusalHere s terms p) none e, le-ltb (p .state .into) (newBytes (currentCommand s p)) h)
+    moves h = rw (goes-on, eq-eqb (refusalHere leastBlocks s terms p) none e, le-ltb (p .state .into) (newBytes (currentCommand leastBlocks s p)) h)
 
-    pub waits : p .state .into < newBytes (currentCommand s p) → machine s terms .waits p ≡ true
+    pub waits : p .state .into < newBytes (currentCommand leastBlocks s p) → machine leastBlocks s terms .waits p ≡ true
     unfolding needsByte
-    waits h = rw (goes-on, eq-eqb (refusalHere s terms p) none e, lt-ltb (p .state .into) (newBytes (currentCommand s p)) h)
+    waits h = rw (goes-on, eq-eqb (refusalHere leastBlocks s terms p) none e, lt-ltb (p .state .into) (newBytes (currentCommand leastBlocks s p)) h)
 
-    pub step : quietStep s terms p ≡ stepHere s p
+    pub step : quietStep leastBlocks s terms p ≡ stepHere s p
     unfolding quietStep
-    step = rw (eq-eqb (refusalHere s terms p) none e)
+    step = rw (eq-eqb (refusalHere leastBlocks s terms p) none e)
 
 -- ---- bytes of a `new`
 
@@ -65,25 +66,25 @@ module _ (s : List ℕ) (terms : Terms) where
   fed-goes blocks xs p g = record { unrefused = g .unrefused; within = g .within }
 
   -- .. at the same line
-  pub fed-refusal : (blocks xs : List ℕ) (p : Config) → refusalHere s terms (fed blocks xs p) ≡ refusalHere s terms p
+  pub fed-refusal : (blocks xs : List ℕ) (p : Config) → refusalHere leastBlocks s terms (fed blocks xs p) ≡ refusalHere leastBlocks s terms p
   unfolding fed furtherInto
   fed-refusal blocks xs p = refl
 
   -- the machine takes as many bytes as the `new` still wants
-  pub eats-new : (xs : List ℕ) (p : Config) → NotStopped s p → refusalHere s terms p ≡ none →
-      length xs ≤ newBytes (currentCommand s p) - p .state .into → Eats (machine s terms) xs p
+  pub eats-new : (xs : List ℕ) (p : Config) → NotStopped s p → refusalHere leastBlocks s terms p ≡ none →
+      length xs ≤ newBytes (currentCommand leastBlocks s p) - p .state .into → Eats (machine leastBlocks s terms) xs p
   unfolding Eats putByte furtherInto
   eats-new [] p g e h = tt
   eats-new (x ∷ xs) p g e h = (
     waits s terms p g e (omega arith),
     goes-on s terms p g,
-    eats-new xs (putByte s x p) (record { unrefused = g .unrefused; within = g .within }) e (omega arith),
+    eats-new xs (putByte leastBlocks s x p) (record { unrefused = g .unrefused; within = g .within }) e (omega arith),
   )
 
-  pub puts-new : (blocks xs : List ℕ) (p : Config) → newBlocks (currentLine s p) (currentCommand s p) ≡ blocks →
-      puts (machine s terms) xs p ≡ fed blocks xs p
+  pub puts-new : (blocks xs : List ℕ) (p : Config) → newBlocks (currentLine s p) (currentCommand leastBlocks s p) ≡ blocks →
+      puts (machine leastBlocks s terms) xs p ≡ fed blocks xs p
   unfolding puts fed putBytes putByte furtherInto
   puts-new blocks [] p e = rw add-zero
   puts-new blocks (x ∷ xs) p e =
       let n : p .state .into + 1 + length xs ≡ p .state .into + suc (length xs) = omega arith in
-      puts-new blocks xs (putByte s x p) e ∙ rw (e, n)
+      puts-new blocks xs (putByte leastBlocks s x p) e ∙ rw (e, n)

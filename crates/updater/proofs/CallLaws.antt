@@ -12,6 +12,7 @@ use Rattle.text.specs.Choice.{no}
 use Rattle.text.specs.Line.{lineNumber}
 use Rattle.text.specs.Expected.{lf}
 use Rattle.text.proofs.LineLaws.{lfs-most}
+use Rattle.ranges.specs.Ranges.{leastBlocks}
 use Rattle.state.specs.Limits.{mostStashes, tableBytes}
 use Rattle.state.specs.Refusals.{none, stateImpossible}
 use Rattle.state.specs.Stashes.{tableOf, held, heldTwice, blocksHeld}
@@ -51,7 +52,7 @@ record Tested (s : List ℕ) (h : Header) (state : State) : Type 0 where
   count : state .count ≤ mostStashes
   blocks : blocksHeld (held state) ≤ h .blocks
 
-tested : (s : List ℕ) (lengths : Lengths) (h : Header) (state : State) → possibleUnder s lengths (Good h) state ≡ true → Tested s h state
+tested : (s : List ℕ) (lengths : Lengths) (h : Header) (state : State) → possibleUnder leastBlocks s lengths (Good h) state ≡ true → Tested s h state
 unfolding possibleUnder atLine canHold
 tested s lengths h state e =
     let a = both-true (atLine s h (state .line) (state .at)) _ e in
@@ -74,7 +75,7 @@ unfolding termsFor termsUnder
 terms-read s lengths e = rw e
 
 module _ (s : List ℕ) (p : Config) where
-  pub possible-fits : isPossible s (lengthsAt s (p .areas)) (p .state) ≡ true → length (p .state .hashes) ≡ tableBytes →
+  pub possible-fits : isPossible leastBlocks s (lengthsAt s (p .areas)) (p .state) ≡ true → length (p .state .hashes) ≡ tableBytes →
       length (p .state .sizes) ≡ mostStashes → Fits s (termsFor s (lengthsAt s (p .areas))) p
   unfolding isPossible
   possible-fits e hashes sizes =
@@ -104,21 +105,21 @@ module _ (s : List ℕ) (p : Config) where
 module _ (s piece : List ℕ) (p : Config) where
   -- a held refusal is repeated and changes nothing
   pub held-call : (p .state .refusal .number ≡ none → ⊥) →
-      resultOf (p .areas) (record { state = p .state; outcome = Refused (p .state .refusal); taken = 0 }) ≡ callOf s piece p
+      resultOf (p .areas) (record { state = p .state; outcome = Refused (p .state .refusal); taken = 0 }) ≡ callOf leastBlocks s piece p
   unfolding callOf leaves takes says isRun outcomeAt
   held-call r = rw (ne-eqb (p .state .refusal .number) none r)
 
   module _ (r : p .state .refusal .number ≡ none) where
     -- so does 17
-    pub impossible-call : isPossible s (lengthsAt s (p .areas)) (p .state) ≡ false →
-        resultOf (p .areas) (record { state = p .state; outcome = Refused (refusing stateImpossible 0); taken = 0 }) ≡ callOf s piece p
+    pub impossible-call : isPossible leastBlocks s (lengthsAt s (p .areas)) (p .state) ≡ false →
+        resultOf (p .areas) (record { state = p .state; outcome = Refused (refusing stateImpossible 0); taken = 0 }) ≡ callOf leastBlocks s piece p
     unfolding callOf leaves takes says isRun
     impossible-call e = rw (eq-eqb (p .state .refusal .number) none r, e)
 
     -- else the lines run
-    pub run-call : isPossible s (lengthsAt s (p .areas)) (p .state) ≡ true → {terms : Terms} → terms ≡ termsFor s (lengthsAt s (p .areas)) →
-        {q : Config} {i : ℕ} → reached q i ≡ runOf s terms piece p → {o : Outcome} → o ≡ outcomeOf s (q .state) →
-        resultOf (q .areas) (record { state = q .state; outcome = o; taken = i }) ≡ callOf s piece p
+    pub run-call : isPossible leastBlocks s (lengthsAt s (p .areas)) (p .state) ≡ true → {terms : Terms} → terms ≡ termsFor s (lengthsAt s (p .areas)) →
+        {q : Config} {i : ℕ} → reached q i ≡ runOf leastBlocks s terms piece p → {o : Outcome} → o ≡ outcomeOf s (q .state) →
+        resultOf (q .areas) (record { state = q .state; outcome = o; taken = i }) ≡ callOf leastBlocks s piece p
     unfolding callOf leaves takes says isRun runOf
     run-call e l {q} {i} x g =
         rw (g, ap (λ (k : Reached). k .config) x, ap (λ (k : Reached). k .taken) x, eq-eqb (p .state .refusal .number) none r, e, l)
@@ -126,15 +127,15 @@ module _ (s piece : List ℕ) (p : Config) where
 -- ---- what a call's contract says, part by part
 
 -- no more is taken than a piece has
-takes-most : (s q : List ℕ) (p : Config) → takes s q p ≤ length q
+takes-most : (s q : List ℕ) (p : Config) → takes leastBlocks s q p ≤ length q
 unfolding takes
 takes-most s q p =
-    picks (λ (n : ℕ). n ≤ length q) (isRun s p) (counts (machine s (termsFor s (lengthsAt s (p .areas)))) q p) 0
-    (λ e. counts-most (machine s (termsFor s (lengthsAt s (p .areas)))) (λ (m : Config). ⊥) anywhere q p)
+    picks (λ (n : ℕ). n ≤ length q) (isRun leastBlocks s p) (counts (machine leastBlocks s (termsFor s (lengthsAt s (p .areas)))) q p) 0
+    (λ e. counts-most (machine leastBlocks s (termsFor s (lengthsAt s (p .areas)))) (λ (m : Config). ⊥) anywhere q p)
     (λ e. omega arith)
   where
     -- `counts-most` asks for no more than soundness where nothing holds
-    anywhere : Sound (machine s (termsFor s (lengthsAt s (p .areas)))) (λ (m : Config). ⊥)
+    anywhere : Sound (machine leastBlocks s (termsFor s (lengthsAt s (p .areas)))) (λ (m : Config). ⊥)
     anywhere =
         record {
           falls = λ m v. absurd v;
@@ -143,16 +144,16 @@ takes-most s q p =
           put-keeps = λ m x v. absurd v;
         }
 
-module _ (s q : List ℕ) (p : Config) {areas : Areas} {called : Called} (e : resultOf areas called ≡ callOf s q p) where
-  pub call-leaves : configOf areas (called .state) ≡ leaves s q p
+module _ (s q : List ℕ) (p : Config) {areas : Areas} {called : Called} (e : resultOf areas called ≡ callOf leastBlocks s q p) where
+  pub call-leaves : configOf areas (called .state) ≡ leaves leastBlocks s q p
   unfolding callOf
   call-leaves = ap (λ (r : Result). configOf (r .areas) (r .called .state)) e
 
-  pub call-takes : called .taken ≡ takes s q p
+  pub call-takes : called .taken ≡ takes leastBlocks s q p
   unfolding callOf
   call-takes = ap (λ (r : Result). r .called .taken) e
 
-  pub call-says : called .outcome ≡ says s q p
+  pub call-says : called .outcome ≡ says leastBlocks s q p
   unfolding callOf
   call-says = ap (λ (r : Result). r .called .outcome) e
 

@@ -12,6 +12,7 @@ use lib.ListN.{length, length-set}
 use Rattle.text.specs.Choice.{pick, no}
 use Rattle.text.proofs.ChoiceLaws.{picks, either-false, no-false}
 use Rattle.text.proofs.LineLaws.{line-some, line-within}
+use Rattle.ranges.specs.Ranges.{leastBlocks}
 use Rattle.state.specs.Refusals.{none}
 use Rattle.state.specs.Stashes.{Table, Whole, tableOf, heldIn, held, blocksHeld}
 use Rattle.state.specs.States.{withTable}
@@ -95,13 +96,13 @@ module _ (s l : List ℕ) (terms : Terms) (p : Config) (f : Fits s terms p) (som
         less = rw (ne-eqb number none n) (omega arith);
       }
 
-  step-after : refusalOf l terms (held (p .state)) ≡ none →
-      SameLengths (p .areas) (effect l (held (p .state)) (commandOf l .hash) (commandOf l .command) (p .areas) .areas) →
-      StepKeeps s terms p (after l (commandOf l .hash) (commandOf l .command) p)
+  step-after : refusalOf leastBlocks l terms (held (p .state)) ≡ none →
+      SameLengths (p .areas) (effect l (held (p .state)) (commandOf leastBlocks l .hash) (commandOf leastBlocks l .command) (p .areas) .areas) →
+      StepKeeps s terms p (after l (commandOf leastBlocks l .hash) (commandOf leastBlocks l .command) p)
   unfolding after stateAfter refusalOf
   step-after e n =
-      let hash = commandOf l .hash in
-      let c = commandOf l .command in
+      let hash = commandOf leastBlocks l .hash in
+      let c = commandOf leastBlocks l .command in
       let t = tableOf (p .state) in
       let x = effect l (held (p .state)) hash c (p .areas) in
       picks (λ (u : State). StepKeeps s terms p (configOf (x .areas) u)) (eqb (x .refusal) none) _ _
@@ -127,30 +128,30 @@ not-stopped s p e =
     }
 
 module _ (s : List ℕ) (terms : Terms) (p : Config) (f : Fits s terms p) where
-  step-quiet : p .state .at < length s → StepKeeps s terms p (quietStep s terms p)
+  step-quiet : p .state .at < length s → StepKeeps s terms p (quietStep leastBlocks s terms p)
   unfolding quietStep refusedAt
   step-quiet h =
       let l = currentLine s p in
-      let number = refusalOf l terms (held (p .state)) in
+      let number = refusalOf leastBlocks l terms (held (p .state)) in
       let some = line-some s (p .state .at) h in
       let within = line-within s (p .state .at) h in
-      picks (StepKeeps s terms p) (eqb number none) (after l (commandOf l .hash) (commandOf l .command) p) (refusedAt number (faultHere s p) p)
+      picks (StepKeeps s terms p) (eqb number none) (after l (commandOf leastBlocks l .hash) (commandOf leastBlocks l .command) p) (refusedAt number (faultHere leastBlocks s p) p)
       (λ t.
       let e = eqb-true number none t in
       step-after s l terms p f some within e
-      (effect-lengths l (held (p .state)) (commandOf l .hash) (p .areas) (commandOf l .command) (keeps s terms p f) (runnable s terms p f e)))
+      (effect-lengths l (held (p .state)) (commandOf leastBlocks l .hash) (p .areas) (commandOf leastBlocks l .command) (keeps s terms p f) (runnable s terms p f e)))
       (λ t.
-      step-refused s l terms p f some within (p .areas) number (faultHere s p) (lengths-refl (p .areas)) (eqb-false number none t))
+      step-refused s l terms p f some within (p .areas) number (faultHere leastBlocks s p) (lengths-refl (p .areas)) (eqb-false number none t))
 
-  pub quiet-lengths : p .state .at < length s → SameLengths (p .areas) (quietStep s terms p .areas)
+  pub quiet-lengths : p .state .at < length s → SameLengths (p .areas) (quietStep leastBlocks s terms p .areas)
   quiet-lengths h = step-quiet h .same
 
-  put-fits : (x : ℕ) → Fits s terms (putByte s x p)
+  put-fits : (x : ℕ) → Fits s terms (putByte leastBlocks s x p)
   unfolding putByte furtherInto
   put-fits x =
-      still-fits s terms p f (putByte s x p)
+      still-fits s terms p f (putByte leastBlocks s x p)
       (record {
-        image = length-set (p .areas .image) (addressOf (newBlocks (currentLine s p) (currentCommand s p)) (p .state .into)) x;
+        image = length-set (p .areas .image) (addressOf (newBlocks (currentLine s p) (currentCommand leastBlocks s p)) (p .state .into)) x;
         stash = refl;
         work = refl;
         result = refl;
@@ -162,10 +163,10 @@ module _ (s : List ℕ) (terms : Terms) (p : Config) (f : Fits s terms p) where
       (f .line)
 
 module _ (s : List ℕ) (terms : Terms) where
-  moving : (p : Config) → machine s terms .waits p ≡ false → NotStopped s p
-  moving p w = not-stopped s p (either-false (isStopped s p) (needsByte s terms p) w .0)
+  moving : (p : Config) → machine leastBlocks s terms .waits p ≡ false → NotStopped s p
+  moving p w = not-stopped s p (either-false (isStopped s p) (needsByte leastBlocks s terms p) w .0)
 
-  pub fits-sound : Sound (machine s terms) (Fits s terms)
+  pub fits-sound : Sound (machine leastBlocks s terms) (Fits s terms)
   fits-sound =
       record {
         falls = λ p f w.

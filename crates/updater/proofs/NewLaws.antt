@@ -10,7 +10,7 @@ use lib.ListN.{length, take, drop, getD, set, length-append, length-set, length-
 use lib.Seq.{take-suc, take-add, drop-drop, getD-drop, getD-append-add, length-take-le}
 use Rattle.text.specs.Number.{numberAt}
 use Rattle.text.specs.declared.number.Number.the-variants as number
-use Rattle.ranges.specs.Ranges.{pairAt, span, blocksOf}
+use Rattle.ranges.specs.Ranges.{leastAgain, pairAt, span, blocksOf}
 use Rattle.ranges.specs.Walk.{pairsOf, rangesOf, blocksAt, AllBelow}
 use Rattle.ranges.specs.declared.Pair.the-variants as pair
 use Rattle.ranges.proofs.WalkLaws.{length-span, below-head, below-tail}
@@ -87,13 +87,13 @@ pub blocks-none : (l : List ℕ) (at : ℕ) {p : ℕ} → numberAt l at ≡ numb
 unfolding blocksAt rangesOf blocksOf
 blocks-none l at e = rw e
 
-blocks-more : (l : List ℕ) (next left : ℕ) {start end past : ℕ} → 0 < left → pairAt l next ≡ pair.Good start end past →
+blocks-more : (l : List ℕ) (next left : ℕ) {start end past : ℕ} → 0 < left → pairAt leastAgain l next ≡ pair.Good start end past →
     blocksOf (pairsOf left l next) ≡ span start (end - start) ++ blocksOf (pairsOf (left - 1) l past)
 unfolding pairsOf blocksOf
 blocks-more l next zero h e = absurd (omega arith)
 blocks-more l next (suc n) h e = rw (e, sub-one (suc n))
 
-pub blocks-bad : (l : List ℕ) (next left : ℕ) {p : ℕ} → 0 < left → pairAt l next ≡ pair.Bad p → blocksOf (pairsOf left l next) ≡ []
+pub blocks-bad : (l : List ℕ) (next left : ℕ) {p : ℕ} → 0 < left → pairAt leastAgain l next ≡ pair.Bad p → blocksOf (pairsOf left l next) ≡ []
 unfolding pairsOf blocksOf
 blocks-bad l next zero h e = absurd (omega arith)
 blocks-bad l next (suc n) h e = rw e
@@ -166,7 +166,7 @@ pub ahead-start : (l : List ℕ) (at from into : ℕ) {count first : ℕ} → nu
 ahead-start l at from into e = record { before = []; text = blocks-start l at e; place = omega arith; unmoved = omega arith }
 
 pub inside-start : {l : List ℕ} {at from into i skip left next start end past : ℕ} → Ahead l at from into i skip left next → 0 < left →
-    pairAt l next ≡ pair.Good start end past → skip < blockBytes * (end - start) → Inside l at from into start end (left - 1) past i skip
+    pairAt leastAgain l next ≡ pair.Good start end past → skip < blockBytes * (end - start) → Inside l at from into start end (left - 1) past i skip
 inside-start {l} {left = left} {next = next} a h e m =
     record { before = a .before; text = a .text ∙ ap (λ (bs : List ℕ). a .before ++ bs) (blocks-more l next left h e); place = a .place; most = omega arith }
 
@@ -192,7 +192,7 @@ pub ahead-past : {l : List ℕ} {at from into start end left past i k : ℕ} →
 ahead-past {start = start} {end = end} n h = let p = n .place in let m = n .most in range-passed (n .before) start (end - start) (n .text) (omega arith) (omega arith)
 
 pub ahead-skip : {l : List ℕ} {at from into i skip left next start end past : ℕ} → Ahead l at from into i skip left next → 0 < left →
-    pairAt l next ≡ pair.Good start end past → blockBytes * (end - start) ≤ skip → Ahead l at from into i (skip - blockBytes * (end - start)) (left - 1) past
+    pairAt leastAgain l next ≡ pair.Good start end past → blockBytes * (end - start) ≤ skip → Ahead l at from into i (skip - blockBytes * (end - start)) (left - 1) past
 ahead-skip {l} {left = left} {next = next} {start = start} {end = end} a h e m =
     let p = a .place in
     let u = a .unmoved in

@@ -10,6 +10,7 @@ use lib.Dec.{eqb}
 use lib.ListN.{length, take, drop, length-take, length-drop}
 use Rattle.text.specs.Choice.{no}
 use Rattle.text.proofs.ChoiceLaws.{either-or-true}
+use Rattle.ranges.specs.Ranges.{leastBlocks}
 use Rattle.ranges.specs.Walk.{blocksAt}
 use Rattle.ranges.specs.declared.RangeSet.{RangeSet}
 use Rattle.state.specs.Limits.{blockBytes}
@@ -72,40 +73,40 @@ module _ (s : List ℕ) (p : Config) where
 pub record Checks (s : List ℕ) (terms : Terms) (p : Config) (l : List ℕ) (checked : Checked) : Type 0 where
   pub going : NotStopped s p
   pub line : l ≡ currentLine s p
-  pub result : checked ≡ checkedOf l terms (held (p .state))
+  pub result : checked ≡ checkedOf leastBlocks l terms (held (p .state))
 
 -- a turn of the loop leads from p to q and to byte i of the piece, and leaves less to do
 pub record Turned (s : List ℕ) (terms : Terms) (piece : List ℕ) (p₀ p q : Config) (i : ℕ) : Type 0 where
-  pub same : Same (machine s terms) (Fits s terms) piece p₀ 0 q i
-  pub less : machine s terms .fuel q < machine s terms .fuel p
+  pub same : Same (machine leastBlocks s terms) (Fits s terms) piece p₀ 0 q i
+  pub less : machine leastBlocks s terms .fuel q < machine leastBlocks s terms .fuel p
 
-module _ {s piece : List ℕ} {terms : Terms} {p₀ p : Config} {i : ℕ} (a : Same (machine s terms) (Fits s terms) piece p₀ 0 p i) where
-  turned : {q : Config} → machine s terms .waits p ≡ false → q ≡ quietStep s terms p → Turned s terms piece p₀ p q i
+module _ {s piece : List ℕ} {terms : Terms} {p₀ p : Config} {i : ℕ} (a : Same (machine leastBlocks s terms) (Fits s terms) piece p₀ 0 p i) where
+  turned : {q : Config} → machine leastBlocks s terms .waits p ≡ false → q ≡ quietStep leastBlocks s terms p → Turned s terms piece p₀ p q i
   turned {q} w e =
       let g = fits-sound s terms in
       rw e
       (record {
-        same = by-quiet (machine s terms) (Fits s terms) g piece p₀ p 0 i a w;
+        same = by-quiet (machine leastBlocks s terms) (Fits s terms) g piece p₀ p 0 i a w;
         less = g .falls p (a .keeps) w;
       })
 
-  stops : isStopped s p ≡ true → Ends (machine s terms) piece p₀ p i
-  stops e = at-stop (machine s terms) (Fits s terms) (fits-sound s terms) piece p₀ p i a e
+  stops : isStopped s p ≡ true → Ends (machine leastBlocks s terms) piece p₀ p i
+  stops e = at-stop (machine leastBlocks s terms) (Fits s terms) (fits-sound s terms) piece p₀ p i a e
 
   -- the text ends
-  pub stops-finished : length s ≤ p .state .at → Ends (machine s terms) piece p₀ p i
+  pub stops-finished : length s ≤ p .state .at → Ends (machine leastBlocks s terms) piece p₀ p i
   stops-finished h = stops (finished-stops s p h)
 
 module _ {s : List ℕ} {terms : Terms} {p : Config} {l : List ℕ} {checked : Checked} (c : Checks s terms p l checked) where
-  checked-refusal : checked .refusal ≡ refusalHere s terms p
+  checked-refusal : checked .refusal ≡ refusalHere leastBlocks s terms p
   unfolding checkedOf
   checked-refusal = rw (c .result, c .line)
 
-  checked-line : checked .line ≡ commandOf (currentLine s p)
+  checked-line : checked .line ≡ commandOf leastBlocks (currentLine s p)
   unfolding checkedOf
   checked-line = rw (c .result, c .line)
 
-  checked-command : currentCommand s p ≡ checked .line .command
+  checked-command : currentCommand leastBlocks s p ≡ checked .line .command
   checked-command = sym (ap (λ (k : Line). k .command) checked-line)
 
 module _ {s : List ℕ} {terms : Terms} {p : Config} {l : List ℕ} {checked : Checked}
@@ -120,14 +121,14 @@ module _ {s : List ℕ} {terms : Terms} {p : Config} {l : List ℕ} {checked : C
       omega (arith, fault-within (currentLine s p) (checked-command c ∙ e), next-at s terms p f (c .going .within))
 
   module _ (e : checked .refusal ≡ none) where
-    unrefused : refusalHere s terms p ≡ none
+    unrefused : refusalHere leastBlocks s terms p ≡ none
     unrefused = sym (checked-refusal c) ∙ e
 
     pub checked-runs : Runnable l (held (p .state)) (p .areas) (checked .line .command)
     checked-runs = rw (c .line, checked-line c) (runnable s terms p f unrefused)
 
     module _ {set : RangeSet} (w : newTarget (checked .line .command) ≡ new.Set set) where
-      new-here : currentCommand s p ≡ command.New set
+      new-here : currentCommand leastBlocks s p ≡ command.New set
       new-here = checked-command c ∙ is-new (checked .line .command) w
 
       pub new-in-image : InImage l (p .areas .image) set
@@ -140,13 +141,13 @@ module _ {s : List ℕ} {terms : Terms} {p : Config} {l : List ℕ} {checked : C
       new-counts n h = let m = new-bytes-most s terms p f unrefused new-here in let k = new-in-image .size in omega arith
 
 module _ {s piece l : List ℕ} {terms : Terms} {p₀ p : Config} {i : ℕ} {checked : Checked}
-    (a : Same (machine s terms) (Fits s terms) piece p₀ 0 p i) (c : Checks s terms p l checked) where
+    (a : Same (machine leastBlocks s terms) (Fits s terms) piece p₀ 0 p i) (c : Checks s terms p l checked) where
   -- the line is refused
   pub refuses : {byte : ℕ} → (checked .refusal ≡ none → ⊥) → byte ≡ faultByte (p .state .at) (checked .line .command) →
-      Ends (machine s terms) piece p₀ (configOf (p .areas) (withRefusal (p .state) (refusingAt (checked .refusal) (p .state .line) byte))) i
+      Ends (machine leastBlocks s terms) piece p₀ (configOf (p .areas) (withRefusal (p .state) (refusingAt (checked .refusal) (p .state .line) byte))) i
   unfolding refusedAt refusedWith
   refuses n b =
-      let m : refusalHere s terms p ≡ none → ⊥ = λ z. n (checked-refusal c ∙ z) in
+      let m : refusalHere leastBlocks s terms p ≡ none → ⊥ = λ z. n (checked-refusal c ∙ z) in
       let q = turned a (refused-moves s terms p (c .going) m) (sym (refused-step s terms p (c .going) m)) in
       rw (b, checked-refusal c, sym (checked-command c)) (stops (q .same) (refused-stops s _ m))
 
@@ -154,7 +155,7 @@ module _ {s piece l : List ℕ} {terms : Terms} {p₀ p : Config} {i : ℕ} {che
     -- a command that needs no byte, with what it leaves of the areas and the number it stops with
     module _ (w : newTarget (checked .line .command) ≡ new.None) {b : Areas} {number : ℕ}
         (x : effectOf b number ≡ effect l (held (p .state)) (checked .line .hash) (checked .line .command) (p .areas)) where
-      no-bytes : newBytes (currentCommand s p) ≡ 0
+      no-bytes : newBytes (currentCommand leastBlocks s p) ≡ 0
       unfolding newBytes
       no-bytes = ap newBytes (checked-command c) ∙ rw w
 
@@ -172,7 +173,7 @@ module _ {s piece l : List ℕ} {terms : Terms} {p₀ p : Config} {i : ℕ} {che
 
       -- it stops the run
       pub halts : (number ≡ none → ⊥) →
-          Ends (machine s terms) piece p₀ (configOf b (withRefusal (p .state) (refusing number (p .state .line)))) i
+          Ends (machine leastBlocks s terms) piece p₀ (configOf b (withRefusal (p .state) (refusing number (p .state .line)))) i
       unfolding stateAfter refusedWith
       halts n = stops (goes (rw (ne-eqb number none n)) .same) (refused-stops s _ n)
 
@@ -186,11 +187,11 @@ module _ {s piece l : List ℕ} {terms : Terms} {p₀ p : Config} {i : ℕ} {che
     module _ {set : RangeSet} {image : List ℕ} {r : ℕ} (w : newTarget (checked .line .command) ≡ new.Set set)
         (took : r ≡ i + min (length piece - i) (blockBytes * length (blocksAt l (set .at)) - p .state .into))
         (put : image ≡ putBytes (blocksAt l (set .at)) (p .state .into) (take (r - i) (drop i piece)) (p .areas .image)) where
-      new-bytes : newBytes (currentCommand s p) ≡ blockBytes * set .blocks
+      new-bytes : newBytes (currentCommand leastBlocks s p) ≡ blockBytes * set .blocks
       unfolding newBytes newTarget
       new-bytes = rw (new-here (a .keeps) c e w)
 
-      new-blocks : newBlocks (currentLine s p) (currentCommand s p) ≡ blocksAt l (set .at)
+      new-blocks : newBlocks (currentLine s p) (currentCommand leastBlocks s p) ≡ blocksAt l (set .at)
       unfolding newBlocks newTarget
       new-blocks = rw (new-here (a .keeps) c e w, c .line)
 
@@ -208,11 +209,11 @@ module _ {s piece l : List ℕ} {terms : Terms} {p₀ p : Config} {i : ℕ} {che
       mid-goes : NotStopped s mid
       mid-goes = rw fed-mid at (fed-goes s terms (blocksAt l (set .at)) (take (r - i) (drop i piece)) p (c .going))
 
-      mid-good : refusalHere s terms mid ≡ none
+      mid-good : refusalHere leastBlocks s terms mid ≡ none
       mid-good = rw fed-mid at (fed-refusal s terms (blocksAt l (set .at)) (take (r - i) (drop i piece)) p) ∙ unrefused (a .keeps) c e
 
       -- they are put and counted
-      takes : Same (machine s terms) (Fits s terms) piece p₀ 0 mid r
+      takes : Same (machine leastBlocks s terms) (Fits s terms) piece p₀ 0 mid r
       takes =
           let n = r - i in
           let xs = take n (drop i piece) in
@@ -222,19 +223,19 @@ module _ {s piece l : List ℕ} {terms : Terms} {p₀ p : Config} {i : ℕ} {che
           let k = len in
           let all : i + n ≡ r = omega arith in
           let eats = eats-new s terms xs p (c .going) (unrefused (a .keeps) c e) (omega arith) in
-          let z : puts (machine s terms) xs p ≡ mid = puts-new s terms (blocksAt l (set .at)) xs p new-blocks ∙ fed-mid in
-          rw (z, all) at (by-puts (machine s terms) (Fits s terms) (fits-sound s terms) piece p₀ p 0 i n a (omega arith) eats)
+          let z : puts (machine leastBlocks s terms) xs p ≡ mid = puts-new s terms (blocksAt l (set .at)) xs p new-blocks ∙ fed-mid in
+          rw (z, all) at (by-puts (machine leastBlocks s terms) (Fits s terms) (fits-sound s terms) piece p₀ p 0 i n a (omega arith) eats)
 
       -- the piece ends first
       pub lacks : (p .state .into + (r - i)) / blockBytes < set .blocks →
-          Ends (machine s terms) piece p₀
+          Ends (machine leastBlocks s terms) piece p₀
           (configOf (withImage (p .areas) image) (withCursor (p .state) (p .state .line) (p .state .at) (p .state .into + (r - i)))) r
       unfolding furtherInto mid
       lacks h =
           let size = new-in-image (a .keeps) c e w .size in
           let within = a .within in
           let b = new-bytes in
-          at-end (machine s terms) (Fits s terms) (fits-sound s terms) piece p₀ mid r takes
+          at-end (machine leastBlocks s terms) (Fits s terms) (fits-sound s terms) piece p₀ mid r takes
           (waits s terms mid mid-goes mid-good (omega arith))
           (omega arith)
 
@@ -246,14 +247,14 @@ module _ {s piece l : List ℕ} {terms : Terms} {p₀ p : Config} {i : ℕ} {che
       fills h =
           let b = new-bytes in
           let k : configOf (withImage (p .areas) image) (withCursor (p .state) (p .state .line + 1) (p .state .at + length l) 0)
-          ≡ quietStep s terms mid =
+          ≡ quietStep leastBlocks s terms mid =
           sym (step s terms mid mid-goes mid-good ∙ rw (new-here (a .keeps) c e w, c .line)) in
           let n = turned takes (moves s terms mid mid-goes mid-good (omega arith)) k in
           record { same = n .same; less = n .less }
 
 -- ---- what a call comes to
 
-pub came : (s : List ℕ) (terms : Terms) {piece : List ℕ} {p₀ p : Config} {i : ℕ} → Ends (machine s terms) piece p₀ p i →
-    reached p i ≡ runOf s terms piece p₀
+pub came : (s : List ℕ) (terms : Terms) {piece : List ℕ} {p₀ p : Config} {i : ℕ} → Ends (machine leastBlocks s terms) piece p₀ p i →
+    reached p i ≡ runOf leastBlocks s terms piece p₀
 unfolding runOf
 came s terms e = rw (e .at-last, e .taken)

@@ -35,23 +35,23 @@ lengthsAt s a =
     lengthsOf s (length (a .image)) (length (a .stash)) (length (a .work)) (length (a .result)) (length (a .patch))
 
 -- a call is a run: no refusal is held, and the state is possible
-unfoldable pub isRun : List ℕ → Config → Bool
-isRun s p = both (eqb (p .state .refusal .number) none) (isPossible s (lengthsAt s (p .areas)) (p .state))
+unfoldable pub isRun : ℕ → List ℕ → Config → Bool
+isRun least s p = both (eqb (p .state .refusal .number) none) (isPossible least s (lengthsAt s (p .areas)) (p .state))
 
 -- what stands after a call: a held refusal and 17 change nothing
-unfoldable pub leaves : List ℕ → List ℕ → Config → Config
-leaves s piece p = pick (isRun s p) (feeds (machine s (termsFor s (lengthsAt s (p .areas)))) piece p) p
+unfoldable pub leaves : ℕ → List ℕ → List ℕ → Config → Config
+leaves least s piece p = pick (isRun least s p) (feeds (machine least s (termsFor s (lengthsAt s (p .areas)))) piece p) p
 
 -- bytes taken
-unfoldable pub takes : List ℕ → List ℕ → Config → ℕ
-takes s piece p = pick (isRun s p) (counts (machine s (termsFor s (lengthsAt s (p .areas)))) piece p) 0
+unfoldable pub takes : ℕ → List ℕ → List ℕ → Config → ℕ
+takes least s piece p = pick (isRun least s p) (counts (machine least s (termsFor s (lengthsAt s (p .areas)))) piece p) 0
 
 -- a held refusal is repeated; then 17; else what the run came to
-unfoldable pub says : List ℕ → List ℕ → Config → Outcome
-says s piece p =
+unfoldable pub says : ℕ → List ℕ → List ℕ → Config → Outcome
+says least s piece p =
     pick (eqb (p .state .refusal .number) none)
-    (pick (isPossible s (lengthsAt s (p .areas)) (p .state))
-    (outcomeOf s (leaves s piece p .state))
+    (pick (isPossible least s (lengthsAt s (p .areas)) (p .state))
+    (outcomeOf s (leaves least s piece p .state))
     (outcome.Refused (refusing stateImpossible 0)))
     (outcomeOf s (p .state))
 
@@ -67,7 +67,7 @@ pub record Result : Type 0 where
 abbrev pub resultOf : Areas → Called → Result
 resultOf areas called = record { areas = areas; called = called }
 
-unfoldable pub callOf : List ℕ → List ℕ → Config → Result
-callOf s piece p =
-    resultOf (leaves s piece p .areas)
-    (record { state = leaves s piece p .state; outcome = says s piece p; taken = takes s piece p })
+unfoldable pub callOf : ℕ → List ℕ → List ℕ → Config → Result
+callOf least s piece p =
+    resultOf (leaves least s piece p .areas)
+    (record { state = leaves least s piece p .state; outcome = says least s piece p; taken = takes least s piece p })

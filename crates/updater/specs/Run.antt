@@ -26,26 +26,26 @@ use Rattle.updater.specs.Steps.{Config, configOf, refusedWith, furtherIn
 abbrev pub currentLine : List ℕ → Config → List ℕ
 currentLine s p = lineAt s (p .state .at)
 
-abbrev pub currentCommand : List ℕ → Config → Command
-currentCommand s p = commandOf (currentLine s p) .command
+abbrev pub currentCommand : ℕ → List ℕ → Config → Command
+currentCommand least s p = commandOf least (currentLine s p) .command
 
-abbrev pub refusalHere : List ℕ → Terms → Config → ℕ
-refusalHere s terms p = refusalOf (currentLine s p) terms (held (p .state))
+abbrev pub refusalHere : ℕ → List ℕ → Terms → Config → ℕ
+refusalHere least s terms p = refusalOf least (currentLine s p) terms (held (p .state))
 
 -- the byte that is reported of it (document 02, R-6)
-abbrev pub faultHere : List ℕ → Config → ℕ
-faultHere s p = faultByte (p .state .at) (currentCommand s p)
+abbrev pub faultHere : ℕ → List ℕ → Config → ℕ
+faultHere least s p = faultByte (p .state .at) (currentCommand least s p)
 
 -- a line refused in a run changes nothing itself
 unfoldable pub refusedAt : ℕ → ℕ → Config → Config
 refusedAt number byte p = configOf (p .areas) (refusedWith (p .state) number byte)
 
 -- each line is decoded and checked again before it runs
-unfoldable pub quietStep : List ℕ → Terms → Config → Config
-quietStep s terms p =
-    pick (eqb (refusalHere s terms p) none)
-    (after (currentLine s p) (commandOf (currentLine s p) .hash) (currentCommand s p) p)
-    (refusedAt (refusalHere s terms p) (faultHere s p) p)
+unfoldable pub quietStep : ℕ → List ℕ → Terms → Config → Config
+quietStep least s terms p =
+    pick (eqb (refusalHere least s terms p) none)
+    (after (currentLine s p) (commandOf least (currentLine s p) .hash) (currentCommand least s p) p)
+    (refusedAt (refusalHere least s terms p) (faultHere least s p) p)
 
 -- the blocks that new data goes to: those of a `new`'s target
 unfoldable pub newBlocks : List ℕ → Command → List ℕ
@@ -56,11 +56,11 @@ unfoldable pub newBytes : Command → ℕ
 newBytes c = onNewTarget (newTarget c) (λ set. blockBytes * set .blocks) 0
 
 -- a byte of new data goes to the byte of R that is next
-unfoldable pub putByte : List ℕ → ℕ → Config → Config
-putByte s x p =
+unfoldable pub putByte : ℕ → List ℕ → ℕ → Config → Config
+putByte least s x p =
     configOf
     (withImage (p .areas)
-    (set (p .areas .image) (addressOf (newBlocks (currentLine s p) (currentCommand s p)) (p .state .into)) x))
+    (set (p .areas .image) (addressOf (newBlocks (currentLine s p) (currentCommand least s p)) (p .state .into)) x))
     (furtherInto (p .state) 1)
 
 -- the list is finished, or something was refused
@@ -68,18 +68,18 @@ unfoldable pub isStopped : List ℕ → Config → Bool
 isStopped s p = either (no (eqb (p .state .refusal .number) none)) (leb (length s) (p .state .at))
 
 -- the next byte of new data is needed
-unfoldable pub needsByte : List ℕ → Terms → Config → Bool
-needsByte s terms p = both (eqb (refusalHere s terms p) none) (ltb (p .state .into) (newBytes (currentCommand s p)))
+unfoldable pub needsByte : ℕ → List ℕ → Terms → Config → Bool
+needsByte least s terms p = both (eqb (refusalHere least s terms p) none) (ltb (p .state .into) (newBytes (currentCommand least s p)))
 
 -- the lines of a text, run on those terms. Each step without a byte leaves a line or refuses, so the text left is fuel enough
-abbrev pub machine : List ℕ → Terms → Machine
-machine s terms =
+abbrev pub machine : ℕ → List ℕ → Terms → Machine
+machine least s terms =
     record {
       Config = Config;
-      waits = λ p. either (isStopped s p) (needsByte s terms p);
+      waits = λ p. either (isStopped s p) (needsByte least s terms p);
       stopped = isStopped s;
-      quiet = quietStep s terms;
-      put = putByte s;
+      quiet = quietStep least s terms;
+      put = putByte least s;
       fuel = λ p. pick (eqb (p .state .refusal .number) none) (length s - p .state .at) 0;
     }
 
@@ -91,5 +91,5 @@ pub record Reached : Type 0 where
 abbrev pub reached : Config → ℕ → Reached
 reached config taken = record { config = config; taken = taken }
 
-unfoldable pub runOf : List ℕ → Terms → List ℕ → Config → Reached
-runOf s terms piece p = reached (feeds (machine s terms) piece p) (counts (machine s terms) piece p)
+unfoldable pub runOf : ℕ → List ℕ → Terms → List ℕ → Config → Reached
+runOf least s terms piece p = reached (feeds (machine least s terms) piece p) (counts (machine least s terms) piece p)

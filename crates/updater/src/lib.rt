@@ -1,5 +1,6 @@
 // Running an opened list over a lent image.
 ghost use mathlib.Core.Path.{_≡_};
+ghost use Rattle.ranges.specs.Ranges.{leastBlocks};
 ghost use Rattle.state.specs.States.{stateWith};
 ghost use Rattle.updater.specs.Areas.{areasOf};
 ghost use Rattle.updater.specs.Calls.{outcomeAt, calledWith, resultOf, callOf};
@@ -72,7 +73,7 @@ pub fn call_in_place(
     sizes: &mut [usize; MOST_STASHES],
     progress: Progress,
 ) -> Advanced
-    ensures { λ r. ⌜ resultOf (areasOf (now (image .exit)) (now (stash .exit)) (now (work .exit)) (now (result .exit)) (now (patch .entry))) (calledWith (now (hashes .exit)) (now (sizes .exit)) r) ≡ callOf (now (list .entry)) (now (piece .entry)) (configOf (areasOf (now (image .entry)) (now (stash .entry)) (now (work .entry)) (now (result .entry)) (now (patch .entry))) (stateWith (now (hashes .entry)) (now (sizes .entry)) progress)) ⌝ }
+    ensures { λ r. ⌜ resultOf (areasOf (now (image .exit)) (now (stash .exit)) (now (work .exit)) (now (result .exit)) (now (patch .entry))) (calledWith (now (hashes .exit)) (now (sizes .exit)) r) ≡ callOf leastBlocks (now (list .entry)) (now (piece .entry)) (configOf (areasOf (now (image .entry)) (now (stash .entry)) (now (work .entry)) (now (result .entry)) (now (patch .entry))) (stateWith (now (hashes .entry)) (now (sizes .entry)) progress)) ⌝ }
 {
     let held = progress.refusal;
     if held.number != 0 {
@@ -139,7 +140,7 @@ pub fn call(
     piece: &[u8],
     state: State,
 ) -> Called
-    ensures { λ r. ⌜ resultOf (areasOf (now (image .exit)) (now (stash .exit)) (now (work .exit)) (now (result .exit)) (now (patch .entry))) r ≡ callOf (now (list .entry)) (now (piece .entry)) (configOf (areasOf (now (image .entry)) (now (stash .entry)) (now (work .entry)) (now (result .entry)) (now (patch .entry))) state) ⌝ }
+    ensures { λ r. ⌜ resultOf (areasOf (now (image .exit)) (now (stash .exit)) (now (work .exit)) (now (result .exit)) (now (patch .entry))) r ≡ callOf leastBlocks (now (list .entry)) (now (piece .entry)) (configOf (areasOf (now (image .entry)) (now (stash .entry)) (now (work .entry)) (now (result .entry)) (now (patch .entry))) state) ⌝ }
 {
     let mut hashes = state.hashes;
     let mut sizes = state.sizes;

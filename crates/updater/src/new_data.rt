@@ -5,6 +5,7 @@ ghost use lib.ListN.{length, take, drop};
 ghost use Rattle.ranges.specs.Walk.{blocksAt, AllBelow};
 ghost use Rattle.state.specs.Limits.{blockBytes};
 ghost use Rattle.updater.specs.Bytes.{putBytes};
+use ranges::LEAST_AGAIN;
 use ranges::Pair;
 use ranges::read_pair;
 use state::limits::BLOCK_BYTES;
@@ -37,7 +38,7 @@ pub(crate) fn take_new(
             start,
             end,
             next: past,
-        } = read_pair(l, next)
+        } = read_pair(l, next, LEAST_AGAIN)
         else {
             return i;
         };

@@ -1,6 +1,7 @@
 // The lines of a list, run until the next byte of new data is needed, the list is finished, or something is refused.
 ghost use mathlib.Core.Path.{_≡_};
 ghost use Prim.Native.Nat.{ℕ, _+_, _<_, _^_};
+ghost use Rattle.ranges.specs.Ranges.{leastBlocks};
 ghost use Rattle.command.specs.Faults.{faultByte};
 ghost use Rattle.command.specs.declared.Command.the-variants.{Bad};
 ghost use Rattle.state.specs.States.{stateWith};
@@ -59,7 +60,7 @@ pub(crate) fn run_lines(
 ) -> Ran
     requires { ⌜ Fits (now list) terms (configOf (areasOf (now image) (now stash) (now work) (now result) (now patch)) (stateWith (now hashes) (now sizes) progress)) ⌝ }
     requires { ⌜ progress .refusal .number ≡ 0 ⌝ }
-    ensures { λ r. ⌜ reached (configOf (areasOf (now (image .exit)) (now (stash .exit)) (now (work .exit)) (now (result .exit)) (now (patch .entry))) (stateWith (now (hashes .exit)) (now (sizes .exit)) (r .progress))) (r .taken) ≡ runOf (now (list .entry)) terms (now (piece .entry)) (configOf (areasOf (now (image .entry)) (now (stash .entry)) (now (work .entry)) (now (result .entry)) (now (patch .entry))) (stateWith (now (hashes .entry)) (now (sizes .entry)) progress)) ⌝ }
+    ensures { λ r. ⌜ reached (configOf (areasOf (now (image .exit)) (now (stash .exit)) (now (work .exit)) (now (result .exit)) (now (patch .entry))) (stateWith (now (hashes .exit)) (now (sizes .exit)) (r .progress))) (r .taken) ≡ runOf leastBlocks (now (list .entry)) terms (now (piece .entry)) (configOf (areasOf (now (image .entry)) (now (stash .entry)) (now (work .entry)) (now (result .entry)) (now (patch .entry))) (stateWith (now (hashes .entry)) (now (sizes .entry)) progress)) ⌝ }
 {
     let mut marks = [0u8; MARK_BYTES];
     let mut count = progress.count;

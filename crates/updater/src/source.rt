@@ -14,6 +14,7 @@ use crate::sets::fill;
 use command::parts::PartRead;
 use command::parts::read_part;
 use command::source::Source;
+use ranges::LEAST_AGAIN;
 use ranges::RangeSet;
 use ranges::walk::walk_from;
 use state::limits::HASH_BYTES;
@@ -72,7 +73,7 @@ fn spread_stashes<'a>(
 {
     let mut at = first;
     loop {
-        let part = read_part(l, at);
+        let part = read_part(l, at, LEAST_AGAIN);
         let hash = part.hash;
         let read = part.read;
         match read {

@@ -3,6 +3,7 @@
 mod form;
 mod limits;
 mod lines;
+mod no_blocks;
 mod patch;
 mod sparse;
 
@@ -11,6 +12,7 @@ use crate::hex;
 use form::{Forms, BYTES};
 use limits::LIMITS;
 pub use lines::LineCoverage;
+use no_blocks::NO_BLOCKS;
 use patch::{Line, FAULTS, PATCHES};
 use reference::{digest, plain, Answer, Areas, Lengths, Outcome, Rooms, State, BLOCK, MOST_STASHES};
 pub use sparse::SparseCoverage;
@@ -21,15 +23,13 @@ pub const LINES: [&str; 11] =
     ["zero", "erase", "new", "stash", "free", "move one", "move two", "move three", "bsdiff one", "bsdiff two", "bsdiff three"];
 
 /// Kinds of lines that ran, each easy to miss.
-pub const KINDS: [&str; 10] = [
+pub const KINDS: [&str; 8] = [
     "a source of two stashes or more",
     "one stash twice in a source",
     "a stash not at the area's front",
     "a stash over parted places",
     "a target over its own source",
     "a target that names a block twice",
-    "an empty range",
-    "a stash of no blocks",
     "a hash stashed again",
     "younger stashes moved down",
 ];
@@ -42,7 +42,7 @@ pub const SIXTEENS: [&str; 3] = ["a move or a stash", "a patch's source", "a pat
 
 /// What makes a state impossible, in document 01's order; the first that applies is counted. The third to the seventh: what the areas
 /// and the header would now give.
-pub const CAUSES: [&str; 14] = [
+pub const CAUSES: [&str; 15] = [
     "the length of list or area",
     "the length of the result area alone",
     "the length of the patch data alone",
@@ -57,6 +57,7 @@ pub const CAUSES: [&str; 14] = [
     "one hash twice",
     "blocks held",
     "bytes into a new",
+    "bytes into a new with an empty range",
 ];
 
 /// One hash twice.
@@ -101,8 +102,14 @@ pub struct Coverage {
     pub kinds: [u64; KINDS.len()],
     /// Openings and calls with many stashes and long sources.
     pub limits: [u64; LIMITS.len()],
+    /// Calls with stashes of no blocks.
+    pub no_blocks: [u64; NO_BLOCKS.len()],
     /// Openings with 3 or 6, by what stands at the first fault.
     pub forms: Forms,
+    /// The same of calls with 6.
+    pub called_forms: Forms,
+    /// Openings that an empty range alone gives 6, by what they gave before R-7: 0 where they were accepted.
+    pub given_before: [u64; 20],
     /// Calls by what they did with the byte of a refusal.
     pub bytes: [u64; BYTES.len()],
 }
@@ -125,11 +132,16 @@ impl Coverage {
         let _ = writeln!(out, "16 of: {}", counted(&SIXTEENS, &self.sixteens));
         let _ = writeln!(out, "17 by cause: {}", counted(&CAUSES, &self.causes));
         let _ = writeln!(out, "first faults of openings: {}", self.forms.report());
+        let (names, counts): (Vec<_>, Vec<_>) = self.called_forms.empty_ranges().unzip();
+        let _ = writeln!(out, "of calls: {}", counted(&names, &counts));
+        let before: Vec<String> = (0..20).filter(|k| self.given_before[*k] > 0).map(|k| format!("{k} {}", self.given_before[k])).collect();
+        let _ = writeln!(out, "6 for an empty range, by what was given before: {}", before.join("; "));
         let _ = writeln!(out, "bytes of calls: {}", counted(&BYTES, &self.bytes));
         let _ = writeln!(out, "19 for: {}", counted(&FAULTS, &self.faults));
         let _ = writeln!(out, "lines that ran: {}", counted(&LINES, &self.lines));
         let _ = writeln!(out, "of these: {}", counted(&KINDS, &self.kinds));
         let _ = writeln!(out, "many and long: {}", counted(&LIMITS, &self.limits));
+        let _ = writeln!(out, "stashes of no blocks: {}", counted(&NO_BLOCKS, &self.no_blocks));
         let _ = writeln!(out, "patches that ran: {}", counted(&PATCHES, &self.patches));
         let _ = writeln!(out, "sequences held to the model {}, runs over cuts {}, digests {}", self.sequences, self.runs, self.digests);
         out
@@ -153,7 +165,10 @@ impl Coverage {
         LINES.iter().zip(self.lines).for_each(|(name, n)| note(name.to_string(), n));
         KINDS.iter().zip(self.kinds).for_each(|(name, n)| note(name.to_string(), n));
         LIMITS.iter().zip(self.limits).for_each(|(name, n)| note(name.to_string(), n));
+        NO_BLOCKS.iter().zip(self.no_blocks).for_each(|(name, n)| note(format!("a stash of no blocks {name}"), n));
         self.forms.each().for_each(|(name, n)| note(name.to_string(), n));
+        self.called_forms.empty_ranges().for_each(|(name, n)| note(format!("in a call, {name}"), n));
+        [0, 8, 11, 15].into_iter().for_each(|k| note(format!("an empty range in a list that gave {k}"), self.given_before[k]));
         BYTES.iter().zip(self.bytes).for_each(|(name, n)| note(name.to_string(), n));
         for (name, n) in [
             ("done", self.done),
@@ -196,6 +211,7 @@ impl Coverage {
         }
         if let Outcome::Refused(refusal) = answer.outcome {
             self.numbers[refusal.number.min(20)] += 1;
+            self.called_forms.refused(list, &refusal);
         }
         let lengths = Lengths::of(list, areas.rooms());
         let impossible = (answer.outcome.number() == 17).then(|| cause(list, &lengths, before));
@@ -223,6 +239,7 @@ impl Coverage {
             _ => {}
         }
         self.within += (answer.outcome == Outcome::More && answer.state.into % BLOCK != 0) as u64;
+        add(&mut self.no_blocks, &no_blocks::called(list, before, answer));
         self.ran(&list[before.at..answer.state.at], before, areas.patch);
     }
 
@@ -234,22 +251,19 @@ impl Coverage {
             let fields: Vec<&[u8]> = line.split(|c| *c == b' ').collect();
             let sets: Vec<Vec<(u64, u64)>> = fields.iter().filter_map(|field| ranges(field)).collect();
             let mut kinds = [false; KINDS.len()];
-            kinds[6] = sets.iter().flatten().any(|(start, end)| start == end);
             let which = match fields[..] {
                 [b"zero", _] => 0,
                 [b"erase", _] => 1,
                 [b"new", _] => 2,
                 [b"stash", name, _] => {
-                    let size = blocks(&sets[0]);
-                    kinds[7] = size == 0;
-                    kinds[8] = freed.iter().any(|other| other == name);
-                    held.push((name.to_vec(), size));
+                    kinds[6] = freed.iter().any(|other| other == name);
+                    held.push((name.to_vec(), blocks(&sets[0])));
                     3
                 }
                 [b"free", name] => {
                     let j = held.iter().position(|stash| stash.0 == name).unwrap_or(0);
                     let gone = held.remove(j);
-                    kinds[9] = gone.1 > 0 && held[j..].iter().any(|younger| younger.1 > 0);
+                    kinds[7] = gone.1 > 0 && held[j..].iter().any(|younger| younger.1 > 0);
                     freed.push(gone.0);
                     4
                 }
@@ -294,7 +308,7 @@ fn hash_of(state: &State, k: usize) -> Vec<u8> {
 }
 
 /// The ranges of a set, after the hash where one stands before it.
-fn ranges(field: &[u8]) -> Option<Vec<(u64, u64)>> {
+pub(crate) fn ranges(field: &[u8]) -> Option<Vec<(u64, u64)>> {
     let text = field.splitn(2, |c| *c == b':').last()?;
     let numbers: Vec<u64> = text.split(|c| *c == b',').map(|n| std::str::from_utf8(n).ok()?.parse().ok()).collect::<Option<_>>()?;
     (numbers.len() > 2).then(|| numbers[1..].chunks_exact(2).map(|two| (two[0], two[1])).collect())
@@ -311,16 +325,12 @@ fn meet(a: &[(u64, u64)], b: &[(u64, u64)]) -> bool {
 
 /// Its blocks do not stand in one row.
 fn parted(set: &[(u64, u64)]) -> bool {
-    let full: Vec<&(u64, u64)> = set.iter().filter(|(start, end)| start < end).collect();
-    full.windows(2).any(|two| two[0].1 != two[1].0)
+    set.windows(2).any(|two| two[0].1 != two[1].0)
 }
 
-/// The stash has blocks, and so has an older one.
+/// An older stash has blocks.
 fn behind(held: &[(Vec<u8>, u64)], name: &[u8]) -> bool {
-    match held.iter().position(|stash| stash.0 == name) {
-        Some(j) => held[j].1 > 0 && held[..j].iter().any(|older| older.1 > 0),
-        None => false,
-    }
+    held.iter().take_while(|stash| stash.0 != name).any(|older| older.1 > 0)
 }
 
 /// What a line is refused with 9 for, as an index of NINES.
@@ -376,5 +386,11 @@ fn cause(list: &[u8], lengths: &Lengths, state: &State) -> usize {
     if total > header.blocks as u128 {
         return 12;
     }
-    13
+    let line = list[state.at..].split(|c| *c == b'\n').next().unwrap_or(b"");
+    let image = (lengths.image / BLOCK) as u64;
+    match line.strip_prefix(b"new ").and_then(ranges) {
+        Some(set) if set.iter().any(|(start, end)| start > end || *end > image) => 13,
+        Some(set) if set.iter().any(|(start, end)| start == end) && ((state.into / BLOCK) as u64) < blocks(&set) => 14,
+        _ => 13,
+    }
 }

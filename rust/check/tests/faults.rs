@@ -26,7 +26,7 @@ fn wrong_at(before: &str, part: &str, place: usize, ending: Option<&str>) {
     let wrong = |place: usize| Refusal { number: 6, line, byte: before.len() + place };
     let with = |part: &[u8], after: &str| [before.as_bytes(), part, after.as_bytes()].concat();
     let part = part.as_bytes();
-    for after in ["\n", "\nzero 2,0,0\n", "\nx\n", "\n\n"] {
+    for after in ["\n", "\nzero 2,0,1\n", "\nx\n", "\n\n"] {
         assert_eq!(refusal(&with(part, after)), wrong(place), "{}", with(part, after).escape_ascii());
     }
     // The text may end anywhere; where it ends with LF there is no such line.
@@ -75,8 +75,8 @@ fn header_lines() {
         ("3\n01\n0\n0\n", 2, 3),
         ("3\n4294967296\n0\n0\n", 2, 11),
         ("3\n0\nimgdiff\n0\n", 3, 4),
-        ("3\n0\n0\n0 \nzero 2,0,0\n", 4, 7),
-        ("3\n0\n0\nx0\nzero 2,0,0\n", 4, 6),
+        ("3\n0\n0\n0 \nzero 2,0,1\n", 4, 7),
+        ("3\n0\n0\nx0\nzero 2,0,1\n", 4, 6),
         // 3 comes before 4 and 5, and the first line that is wrong before a later one.
         ("7\n0\n0\n", 4, 6),
         ("7\n0\n999\nx\n", 4, 8),
@@ -101,30 +101,30 @@ fn range_sets() {
         ("erase ".into(), "".into()),
         ("new ".into(), "".into()),
         (format!("stash {H} "), "".into()),
-        (format!("move {H} "), " 0 2,0,0".into()),
-        (format!("move {H} 2,0,0 0 "), "".into()),
-        (format!("move {H} 2,0,0 0 "), format!(" 2,0,0 {H}:2,0,0")),
-        (format!("move {H} 2,0,0 0 2,0,0 "), format!(" {H}:2,0,0")),
-        (format!("move {H} 2,0,0 0 - {H}:"), "".into()),
-        (format!("move {H} 2,0,0 0 2,0,0 2,0,0 {H}:2,0,0 {H}:"), format!(" {H}:2,0,0")),
-        (format!("bsdiff 0 0 {H} {H} "), " 0 2,0,0".into()),
-        (format!("bsdiff 0 0 {H} {H} 2,0,0 0 "), "".into()),
-        (format!("bsdiff 0 0 {H} {H} 2,0,0 0 - {H}:"), "".into()),
+        (format!("move {H} "), " 0 2,0,1".into()),
+        (format!("move {H} 2,0,1 0 "), "".into()),
+        (format!("move {H} 2,0,1 0 "), format!(" 2,0,1 {H}:2,0,1")),
+        (format!("move {H} 2,0,1 0 2,0,1 "), format!(" {H}:2,0,1")),
+        (format!("move {H} 2,0,1 0 - {H}:"), "".into()),
+        (format!("move {H} 2,0,1 0 2,0,1 2,0,1 {H}:2,0,1 {H}:"), format!(" {H}:2,0,1")),
+        (format!("bsdiff 0 0 {H} {H} "), " 0 2,0,1".into()),
+        (format!("bsdiff 0 0 {H} {H} 2,0,1 0 "), "".into()),
+        (format!("bsdiff 0 0 {H} {H} 2,0,1 0 - {H}:"), "".into()),
     ];
-    let zeros = |count: usize| ",0".repeat(count);
+    let blocks = |count: usize| ",0,1".repeat(count / 2);
     // The set, the place in it, which may be the byte behind it, and an ending from there on.
     let sets: Vec<(&str, usize, Option<String>)> = vec![
         // The count: none begins with 0; an odd one may become even, as long as another digit fits.
-        ("", 0, Some("2,0,0".into())),
-        ("0", 0, Some("2,0,0".into())),
-        ("00", 0, Some("2,0,0".into())),
-        ("0,1", 0, Some("2,0,0".into())),
-        ("02,0,1", 0, Some("2,0,0".into())),
-        ("1", 1, Some(format!("0{}", zeros(10)))),
-        ("1,2", 1, Some(format!("0{}", zeros(10)))),
-        ("3,1,2,3", 1, Some(format!("0{}", zeros(30)))),
-        ("7,1,2", 1, Some(format!("8{}", zeros(78)))),
-        ("11,1,2", 2, Some(format!("0{}", zeros(110)))),
+        ("", 0, Some("2,0,1".into())),
+        ("0", 0, Some("2,0,1".into())),
+        ("00", 0, Some("2,0,1".into())),
+        ("0,1", 0, Some("2,0,1".into())),
+        ("02,0,1", 0, Some("2,0,1".into())),
+        ("1", 1, Some(format!("0{}", blocks(10)))),
+        ("1,2", 1, Some(format!("0{}", blocks(10)))),
+        ("3,1,2,3", 1, Some(format!("0{}", blocks(30)))),
+        ("7,1,2", 1, Some(format!("8{}", blocks(78)))),
+        ("11,1,2", 2, Some(format!("0{}", blocks(110)))),
         ("429496729,1", 9, None),
         ("4294967291,1", 9, None),
         ("4294967295,1", 9, None),
@@ -137,14 +137,14 @@ fn range_sets() {
         ("4294967294", 10, None),
         ("4294967294,x", 11, None),
         ("99999999999", 8, None),
-        ("+2,0,1", 0, Some("2,0,0".into())),
-        ("a", 0, Some("2,0,0".into())),
-        (" 2,0,1", 0, Some("2,0,0".into())),
+        ("+2,0,1", 0, Some("2,0,1".into())),
+        ("a", 0, Some("2,0,1".into())),
+        (" 2,0,1", 0, Some("2,0,1".into())),
         // As many numbers as it says, joined by commas.
         ("2", 1, Some(",0,1".into())),
         ("2,", 2, Some("0,1".into())),
-        ("2,1", 3, Some(",1".into())),
-        ("2,1,", 4, Some("1".into())),
+        ("2,1", 3, Some(",2".into())),
+        ("2,1,", 4, Some("2".into())),
         ("2,,2", 2, Some("1,2".into())),
         (",1,2", 0, Some("2,1,2".into())),
         ("2;1,2", 1, Some(",1,2".into())),
@@ -165,39 +165,69 @@ fn range_sets() {
         ("2,01,2", 3, Some(",2".into())),
         ("2,00,2", 3, Some(",2".into())),
         ("2,1,02", 4, Some("2".into())),
-        ("2,0,00", 5, Some("".into())),
-        ("2,4294967296,1", 11, Some(",429496729".into())),
-        ("2,42949672950,1", 12, Some(",4294967295".into())),
+        ("2,4294967296,1", 11, Some(",429496730".into())),
+        ("2,42949672940,1", 12, Some(",4294967295".into())),
         ("2,1,4294967296", 13, Some("".into())),
         ("2,1,99999999999", 13, Some("".into())),
-        // An end below its start: where no digit more can lift it.
+        // A start that no end can follow.
+        ("2,4294967295", 11, Some("4,4294967295".into())),
+        ("2,4294967295,4294967295", 11, Some(",4294967295".into())),
+        ("2,42949672950,1", 11, Some("0,4294967295".into())),
+        ("4,0,1,4294967295,5", 15, Some(",429496730".into())),
+        // An end that is its start: where no digit more can lift it.
+        ("2,0,0", 4, Some("1".into())),
+        ("2,0,00", 4, Some("1".into())),
+        ("2,0,01", 4, Some("1".into())),
+        ("2,1,1", 5, Some("0".into())),
+        ("2,8,8", 5, Some("0".into())),
+        ("2,9,9", 5, Some("0".into())),
+        ("2,10,10", 7, Some("0".into())),
+        ("2,42949672,42949672", 19, Some("9".into())),
+        ("2,429496729,429496729", 21, Some("5".into())),
+        ("2,429496729,4294967296", 21, Some("0".into())),
+        ("2,429496730,429496730", 20, Some("1".into())),
+        ("2,429496731,429496731", 20, Some("2".into())),
+        ("2,429496739,429496739", 19, Some("40".into())),
+        ("2,500000000,500000000", 20, Some("1".into())),
+        ("2,999999999,999999999", 12, Some("1000000000".into())),
+        ("2,1000000000,1000000000", 22, Some("1".into())),
+        ("2,4000000000,4000000000", 22, Some("1".into())),
+        ("2,4294967289,4294967289", 21, Some("90".into())),
+        ("2,4294967294,4294967294", 22, Some("5".into())),
+        ("4,0,0,1,2", 4, Some("1,1,2".into())),
+        ("4,8,8,1,2", 5, Some("0,1,2".into())),
+        ("6,0,1,3,3,5,6", 9, Some("0,5,6".into())),
+        ("6,0,1,0,0,5,6", 8, Some("1,5,6".into())),
+        ("4,0,1,8,8", 9, Some("0".into())),
+        ("4,0,1,429496730,429496730", 24, Some("1".into())),
+        // An end below its start likewise.
         ("2,5,3", 5, Some("0".into())),
-        ("2,5,0", 4, Some("5".into())),
-        ("2,5,05", 4, Some("5".into())),
-        ("2,10,1", 6, Some("0".into())),
+        ("2,5,0", 4, Some("6".into())),
+        ("2,5,05", 4, Some("6".into())),
+        ("2,10,1", 6, Some("1".into())),
         ("2,10,9", 6, Some("0".into())),
         ("2,99,98", 7, Some("0".into())),
-        ("2,4294967295,3", 13, Some("4294967295".into())),
-        ("2,4294967295,429496729", 22, Some("5".into())),
-        ("2,4294967295,4294967294", 22, Some("5".into())),
-        ("2,4294967294,4294967293", 22, Some("4".into())),
-        ("2,4294967290,4294967289", 21, Some("90".into())),
-        ("2,4294967290,42949672895", 21, Some("90".into())),
-        ("2,4294967290,42949671", 20, Some("290".into())),
-        ("2,4200000000,41", 14, Some("200000000".into())),
+        ("2,4294967294,3", 13, Some("4294967295".into())),
+        ("2,4294967294,429496729", 22, Some("5".into())),
+        ("2,4294967294,4294967293", 22, Some("5".into())),
+        ("2,4294967290,4294967289", 21, Some("91".into())),
+        ("2,4294967290,42949672895", 21, Some("91".into())),
+        ("2,4294967290,42949671", 20, Some("291".into())),
+        ("2,4200000000,41", 14, Some("200000001".into())),
         ("2,4200000000,5", 13, Some("4294967295".into())),
-        ("2,3000000000,2", 13, Some("3000000000".into())),
-        ("2,3000000000,30", 15, Some("00000000".into())),
-        ("2,1000000000,99", 13, Some("1000000000".into())),
-        ("2,1000000000,1", 14, Some("000000000".into())),
+        ("2,3000000000,2", 13, Some("3000000001".into())),
+        ("2,3000000000,30", 15, Some("00000001".into())),
+        ("2,1000000000,99", 13, Some("1000000001".into())),
+        ("2,1000000000,1", 14, Some("000000001".into())),
         ("2,500000000,49", 13, Some("000000000".into())),
         ("2,500000000,4", 13, Some("000000000".into())),
         ("2,429496730,42949672", 20, Some("90".into())),
-        ("2,999999999,99999999", 20, Some("9".into())),
+        ("2,999999998,99999999", 20, Some("9".into())),
+        ("2,999999999,99999999", 12, Some("1000000000".into())),
         ("4,5,3,0,1", 5, Some("0,0,1".into())),
         ("4,0,1,5,3", 9, Some("0".into())),
         ("4,0,1,5,", 8, Some("6".into())),
-        ("4,9,9,4294967295,5", 17, Some("4294967295".into())),
+        ("4,9,10,4294967294,5", 18, Some("4294967295".into())),
     ];
     for (before, after) in &places {
         for (set, place, ending) in &sets {
@@ -206,7 +236,8 @@ fn range_sets() {
         }
     }
     // These are good, whatever else is said of them.
-    for set in ["2,0,0", "2,8,8", "2,4294967295,4294967295", "2,4294967294,4294967295", "2,429496729,4294967290", "4,5,5,0,1"] {
+    for set in ["2,0,1", "2,8,9", "2,4294967294,4294967295", "2,429496729,4294967290", "2,429496730,429496731", "2,999999999,1000000000", "4,5,6,0,1"]
+    {
         for (before, after) in &places {
             let good = format!("{HEADER}{before}{set}{after}\n");
             assert!(!matches!(refusal(good.as_bytes()).number, 3 | 6 | 7), "{good}");
@@ -217,39 +248,39 @@ fn range_sets() {
 #[test]
 fn lines() {
     let short = &H[..39];
-    let set = "2,0,0";
+    let set = "2,0,1";
     let moved = format!("move {H} {set} 0");
     let patched = format!("bsdiff 0 0 {H} {H} {set} 0");
     // The line, the place in it, and an ending from there on.
     let cases: Vec<(String, usize, String)> = vec![
         // Words.
-        ("".into(), 0, "zero 2,0,0".into()),
-        (" ".into(), 0, "zero 2,0,0".into()),
-        ("x".into(), 0, "zero 2,0,0".into()),
-        ("\0".into(), 0, "zero 2,0,0".into()),
-        ("\u{e4}".into(), 0, "zero 2,0,0".into()),
-        ("Zero 2,0,0".into(), 0, "zero 2,0,0".into()),
-        (" zero 2,0,0".into(), 0, "zero 2,0,0".into()),
-        ("i".into(), 0, "zero 2,0,0".into()),
-        ("imgdif".into(), 0, "zero 2,0,0".into()),
-        ("imgdif 1".into(), 0, "zero 2,0,0".into()),
-        ("imgdiffs 0".into(), 0, "zero 2,0,0".into()),
-        ("imgdiff\t0".into(), 0, "zero 2,0,0".into()),
-        ("z".into(), 1, "ero 2,0,0".into()),
-        ("zap".into(), 1, "ero 2,0,0".into()),
-        ("zer".into(), 3, "o 2,0,0".into()),
-        ("zer 2,0,0".into(), 3, "o 2,0,0".into()),
-        ("zero".into(), 4, " 2,0,0".into()),
-        ("zerox 2,0,0".into(), 4, " 2,0,0".into()),
-        ("zeros".into(), 4, " 2,0,0".into()),
-        ("zero\t2,0,0".into(), 4, " 2,0,0".into()),
-        ("zero\r".into(), 4, " 2,0,0".into()),
-        ("zero\0".into(), 4, " 2,0,0".into()),
-        ("zero  2,0,0".into(), 5, "2,0,0".into()),
-        ("e".into(), 1, "rase 2,0,0".into()),
-        ("eraser 2,0,0".into(), 5, " 2,0,0".into()),
-        ("n".into(), 1, "ew 2,0,0".into()),
-        ("news 2,0,0".into(), 3, " 2,0,0".into()),
+        ("".into(), 0, "zero 2,0,1".into()),
+        (" ".into(), 0, "zero 2,0,1".into()),
+        ("x".into(), 0, "zero 2,0,1".into()),
+        ("\0".into(), 0, "zero 2,0,1".into()),
+        ("\u{e4}".into(), 0, "zero 2,0,1".into()),
+        ("Zero 2,0,1".into(), 0, "zero 2,0,1".into()),
+        (" zero 2,0,1".into(), 0, "zero 2,0,1".into()),
+        ("i".into(), 0, "zero 2,0,1".into()),
+        ("imgdif".into(), 0, "zero 2,0,1".into()),
+        ("imgdif 1".into(), 0, "zero 2,0,1".into()),
+        ("imgdiffs 0".into(), 0, "zero 2,0,1".into()),
+        ("imgdiff\t0".into(), 0, "zero 2,0,1".into()),
+        ("z".into(), 1, "ero 2,0,1".into()),
+        ("zap".into(), 1, "ero 2,0,1".into()),
+        ("zer".into(), 3, "o 2,0,1".into()),
+        ("zer 2,0,1".into(), 3, "o 2,0,1".into()),
+        ("zero".into(), 4, " 2,0,1".into()),
+        ("zerox 2,0,1".into(), 4, " 2,0,1".into()),
+        ("zeros".into(), 4, " 2,0,1".into()),
+        ("zero\t2,0,1".into(), 4, " 2,0,1".into()),
+        ("zero\r".into(), 4, " 2,0,1".into()),
+        ("zero\0".into(), 4, " 2,0,1".into()),
+        ("zero  2,0,1".into(), 5, "2,0,1".into()),
+        ("e".into(), 1, "rase 2,0,1".into()),
+        ("eraser 2,0,1".into(), 5, " 2,0,1".into()),
+        ("n".into(), 1, "ew 2,0,1".into()),
+        ("news 2,0,1".into(), 3, " 2,0,1".into()),
         ("m".into(), 1, format!("ove {H} {set} 0 {set}")),
         ("moved".into(), 4, format!(" {H} {set} 0 {set}")),
         ("st".into(), 2, format!("ash {H} {set}")),
@@ -262,9 +293,9 @@ fn lines() {
         ("bsdiff".into(), 6, format!(" 0 0 {H} {H} {set} 0 {set}")),
         ("bsdiff2 0".into(), 6, format!(" 0 0 {H} {H} {set} 0 {set}")),
         // A line's end: nothing stands before it that is no part of a field.
-        ("zero 2,0,0 ".into(), 10, "".into()),
-        ("zero 2,0,0\r".into(), 10, "".into()),
-        ("zero 2,0,0 2,0,0".into(), 10, "".into()),
+        ("zero 2,0,1 ".into(), 10, "".into()),
+        ("zero 2,0,1\r".into(), 10, "".into()),
+        ("zero 2,0,1 2,0,1".into(), 10, "".into()),
         (format!("free {H} "), 45, "".into()),
         (format!("free {H}\r"), 45, "".into()),
         (format!("stash {H} {set} "), 52, "".into()),
@@ -300,8 +331,8 @@ fn lines() {
         (format!("{moved} -"), 55, format!(" {H}:{set}")),
         (format!("{moved} - "), 56, format!("{H}:{set}")),
         (format!("{moved} --"), 55, format!(" {H}:{set}")),
-        (format!("{moved} -2,0,0"), 55, format!(" {H}:{set}")),
-        (format!("{moved} - 2,0,0"), 57, format!("{}:{set}", &H[1..])),
+        (format!("{moved} -2,0,1"), 55, format!(" {H}:{set}")),
+        (format!("{moved} - 2,0,1"), 57, format!("{}:{set}", &H[1..])),
         (format!("{moved} - x"), 56, format!("{H}:{set}")),
         (format!("{moved} - {short}:{set}"), 95, format!("9:{set}")),
         (format!("{moved} - {H}"), 96, format!(":{set}")),
@@ -336,7 +367,7 @@ fn lines() {
     ];
     for (line, place, ending) in &cases {
         // The first of the lines, and a later one.
-        for before in [HEADER.to_string(), format!("{HEADER}zero 2,0,0\nnew 2,4,4\n")] {
+        for before in [HEADER.to_string(), format!("{HEADER}zero 2,0,1\nnew 2,4,5\n")] {
             wrong_at(&before, line, *place, Some(ending));
         }
     }
@@ -359,7 +390,7 @@ fn every_beginning_of_a_good_line() {
         format!("bsdiff 0 10 {H} {H} {set} 1 - {H}:{set}"),
         format!("bsdiff 1 2 {H} {H} {set} 0 {set} {set} {H}:{set}"),
     ] {
-        let before = format!("{HEADER}zero 2,0,0\n");
+        let before = format!("{HEADER}zero 2,0,1\n");
         let text = format!("{before}{line}");
         for cut in before.len() + 1..=text.len() {
             assert_eq!(refusal(&text.as_bytes()[..cut]), Refusal { number: 6, line: 6, byte: cut }, "{}", &text[..cut]);
@@ -385,9 +416,9 @@ fn other_refusals_have_no_byte() {
         (format!("{HEADER}zero 2,7,9\n"), 8),
         (format!("{HEADER}stash {H} 2,0,2\n"), 9),
         (format!("{HEADER}free {H}\n"), 10),
-        (format!("{HEADER}move {H} 2,0,1 0 2,0,0\n"), 11),
+        (format!("{HEADER}move {H} 2,0,1 0 2,0,1\n"), 11),
         (format!("{HEADER}zero 2,0,1\n"), 15),
-        (format!("{HEADER}bsdiff 1 0 {H} {H} 2,0,0 0 2,0,0\n"), 18),
+        (format!("{HEADER}bsdiff 1 0 {H} {H} 2,0,1 1 2,0,1\n"), 18),
     ] {
         let given = refusal(list.as_bytes());
         assert_eq!((given.number, given.byte), (number, 0), "{list}");
@@ -395,6 +426,10 @@ fn other_refusals_have_no_byte() {
     // In one line 6 comes before 8, and a line's before a later one's.
     for (list, number, line, byte) in [
         (format!("{HEADER}zero 4,0,9,5,x\n"), 6, 5, 21),
+        (format!("{HEADER}zero 2,9,9\n"), 6, 5, 18),
+        (format!("{HEADER}zero 4,0,9,3,3\n"), 6, 5, 22),
+        (format!("{HEADER}move {H} 2,0,1 1 - {H}:2,9,9\n"), 6, 5, 110),
+        (format!("{HEADER}imgdiff 2,9,9\n"), 7, 5, 0),
         (format!("{HEADER}zero 2,0,9\nx\n"), 8, 5, 0),
         (format!("{HEADER}x\nzero 2,0,9\n"), 6, 5, 8),
         (format!("{HEADER}zero 2,0,1\nx\n"), 6, 6, 19),

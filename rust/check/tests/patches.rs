@@ -256,25 +256,21 @@ fn every_beginning_of_a_patch() {
 
 #[test]
 fn patches_of_no_bytes() {
-    // An empty target, of an empty source and of another: done, and T must be the hash of nothing.
-    for (source, from, work) in [("", "2,5,5", "uvw"), ("AB", "2,0,2", "ABw")] {
-        let list = one_line(b"", source, from, "", "2,4,4");
-        assert_eq!(ends(&list, b""), (Done, ["ABCDEFGH", "xyz", work, "rst"].map(String::from)));
-        let other = list.replacen(&format!("{} 2,4,4", name("")), &format!("{} 2,4,4", name("A")), 1);
-        assert_eq!(ends(&other, b""), (refused(16, 5), ["ABCDEFGH", "xyz", work, "rst"].map(String::from)));
+    // There is no target without blocks, of whatever source.
+    for (n, from) in [(0, "2,5,5"), (2, "2,0,2")] {
+        let list = format!("3\n0\n0\n0\nbsdiff 0 0 {} {} 2,4,4 {n} {from}\n", name("AB"), name(""));
+        assert_eq!(opened(&list, b""), (6, 5));
     }
     // At the very end of the data, and one past it.
     for (from, want) in [(0, (0, 0)), (7, (0, 0)), (8, (18, 5))] {
-        let list = format!("3\n0\n0\n0\nbsdiff {from} 0 {} {} 2,4,4 0 2,0,0\n", name(""), name(""));
+        let list = format!("3\n1\n0\n0\nbsdiff {from} 0 {} {} 2,4,5 1 2,0,1\n", name("A"), name("A"));
         assert_eq!(opened(&list, b"CPCPCPC"), want);
     }
-    // A target of a block: nothing makes it.
+    // Nothing makes a block, nor do records of nothing.
     let areas = ["ABCDEFGH", "xyz", "Avw", "rst"].map(String::from);
-    assert_eq!(ends(&one_line(b"", "A", "2,0,1", "A", "2,4,5"), b""), (refused(19, 5), areas));
-    // Records of nothing make an empty target, and no other.
-    let nothing = patch_of(&[record(b"", b"", 5), record(b"", b"", -9)]);
-    assert_eq!(ends(&one_line(&nothing, "A", "2,0,1", "", "2,4,4"), &nothing).0, Done);
-    assert_eq!(ends(&one_line(&nothing, "A", "2,0,1", "A", "2,4,5"), &nothing).0, refused(19, 5));
+    for patch in [Vec::new(), patch_of(&[record(b"", b"", 5), record(b"", b"", -9)])] {
+        assert_eq!(ends(&one_line(&patch, "A", "2,0,1", "A", "2,4,5"), &patch), (refused(19, 5), areas.clone()));
+    }
 }
 
 #[test]
@@ -291,7 +287,6 @@ fn where_bytes_are_added_from() {
         ("before the source", vec![record(b"", b"", -block), record(&added(b'q'), b"", 0)], "A", "2,0,1", "q", "2,4,5"),
         ("far past it", vec![record(b"", b"", FARTHEST - block), record(&added(b'q'), b"", 0)], "A", "2,0,1", "q", "2,4,5"),
         ("far before it", vec![record(b"", b"", -FARTHEST), record(&added(b'q'), b"", 0)], "A", "2,0,1", "q", "2,4,5"),
-        ("from nothing", vec![record(&added(b'q'), b"", 0)], "", "2,0,0", "q", "2,4,5"),
         // Over its start and over its end.
         ("over the start", vec![record(b"", b"", -block), record(&[added(b'q'), added(1)].concat(), b"", 0)], "A", "2,0,1", "qB", "2,4,6"),
         ("over the end", vec![record(&[added(1), added(b'q')].concat(), b"", 0)], "A", "2,0,1", "Bq", "2,4,6"),
@@ -359,7 +354,7 @@ fn lines_and_which_number_comes_first() {
     let cases: Vec<(u64, String, usize)> = vec![
         (1, format!("bsdiff 0 100 {h} {h} 2,0,1 1 2,0,1\n"), 0),
         (3, format!("bsdiff 0 0 {h} {h} 2,0,3 1 - {h}:2,0,1\n"), 0),
-        (0, format!("bsdiff 100 0 {h} {h} 2,0,0 2 2,0,1 2,0,1 {h}:2,1,2\n"), 0),
+        (1, format!("bsdiff 100 0 {h} {h} 2,0,1 2 2,0,1 2,0,1 {h}:2,1,2\n"), 0),
         // The form: 6 before all else.
         (0, "bsdiff".into(), 6),
         (0, "bsdiff\n".into(), 6),
@@ -389,11 +384,14 @@ fn lines_and_which_number_comes_first() {
         (0, format!("bsdiff 0 0 {h} {h}0 2,0,1 1 2,0,1\n"), 6),
         (0, format!("Bsdiff 0 0 {h} {h} 2,0,1 1 2,0,1\n"), 6),
         (0, format!("bsdiff2 0 0 {h} {h} 2,0,1 1 2,0,1\n"), 6),
+        (0, format!("bsdiff 0 0 {h} {h} 2,9,9 1 2,0,1\n"), 6),
+        (0, format!("bsdiff 101 0 {h} {h} 2,0,1 4 4,0,4,8,8\n"), 6),
+        (0, format!("bsdiff 0 0 {h} {h} 2,0,1 1 - {h}:4,0,1,1,1\n"), 6),
         (0, format!("imgdiff 0 0 {h} {h} 2,0,1 1 2,0,1\n"), 7),
         (0, format!("imgdiff 0 0 {h} {h} 2,0,1 1 2,0,1"), 7),
         // 8: of R or S, and not of L.
         (1, format!("bsdiff 101 0 {h} {h} 2,8,9 4 2,0,4\n"), 8),
-        (0, format!("bsdiff 0 0 {h} {h} 2,9,9 1 2,0,1\n"), 8),
+        (1, format!("bsdiff 0 0 {h} {h} 2,9,10 1 2,0,1\n"), 8),
         (1, format!("bsdiff 0 0 {h} {h} 2,0,1 1 2,8,9\n"), 8),
         (1, format!("bsdiff 0 0 {h} {h} 2,0,1 1 - {h}:2,8,9\n"), 12),
         // 9: N, S, or R over the result area; repeats count.
@@ -440,12 +438,10 @@ fn lines_and_which_number_comes_first() {
         assert_eq!(opened(&format!("3\n{total}\n0\n0\nbsdiff 0 0 {h} {h} 2,0,2 1 2,0,1\n"), &data), want);
     }
     // R over the result area: what 9 looks at is the area that is lent.
-    for (result, target, want) in
-        [(0, "2,0,0", 0), (0, "2,0,1", 9), (1, "2,0,1", 0), (1, "4,0,1,0,1", 9), (4_096, "2,0,4096", 0), (4_096, "2,0,4097", 9)]
-    {
-        let list = format!("3\n{}\n0\n0\nbsdiff 0 0 {h} {h} {target} 0 2,0,0\n", size(target));
+    for (result, target, want) in [(0, "2,0,1", 9), (1, "2,0,1", 0), (1, "4,0,1,0,1", 9), (4_096, "2,0,4096", 0), (4_096, "2,0,4097", 9)] {
+        let list = format!("3\n{}\n0\n0\nbsdiff 0 0 {h} {h} {target} 1 2,0,1\n", size(target));
         for on in all() {
-            let rooms = Rooms { image: 5_000 * BLOCK, result: result * BLOCK, ..Rooms::default() };
+            let rooms = Rooms { image: 5_000 * BLOCK, work: BLOCK, result: result * BLOCK, ..Rooms::default() };
             assert_eq!(on.open(list.as_bytes(), rooms).refusal.number, want, "{result} {target}");
         }
     }

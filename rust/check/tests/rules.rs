@@ -58,7 +58,9 @@ fn samples() {
     assert_eq!(after("3\n2\n0\n0\nzero 2,3,5\n", b"", b"").0[0], "ABC00FGH");
     let list = format!("3\n0\n1\n3\nstash {} 4,6,7,1,3\n", name("GBC"));
     assert_eq!(after(&list, b"", b"").0[1], "GBC");
-    assert_eq!(refusal("3\n7\n0\n0\nzero 6,247114,247116,247150,247155,247156,247156\n"), (8, 5));
+    assert_eq!(refusal("3\n7\n0\n0\nzero 4,247114,247116,247150,247155\n"), (8, 5));
+    let empty = "3\n7\n0\n0\nzero 6,247114,247116,247150,247155,247156,247156\n";
+    assert_eq!(whole_refusal(empty), Refusal { number: 6, line: 5, byte: 56 });
     // 4: ill formed.
     for (set, byte) in [("2,5,3", 18), ("3,1,2,3", 14), ("0", 13), ("4,1,2", 18), ("2,01,2", 16)] {
         assert_eq!(whole_refusal(&format!("3\n0\n0\n0\nzero {set}\n")), Refusal { number: 6, line: 5, byte }, "{set}");
@@ -66,8 +68,9 @@ fn samples() {
     // 5 and 6.
     assert_eq!(after("3\n1\n0\n0\nzero 2,7,8\n", b"", b"").0[0], "ABCDEFG0");
     assert_eq!(refusal("3\n2\n0\n0\nzero 2,7,9\n"), (8, 5));
-    assert_eq!(after("3\n0\n0\n0\nzero 2,8,8\n", b"", b"").0[0], "ABCDEFGH");
-    assert_eq!(refusal("3\n0\n0\n0\nzero 2,9,9\n"), (8, 5));
+    for set in ["2,8,8", "2,9,9"] {
+        assert_eq!(whole_refusal(&format!("3\n0\n0\n0\nzero {set}\n")), Refusal { number: 6, line: 5, byte: 18 }, "{set}");
+    }
     // 7: a target over its own source.
     let list = format!("3\n3\n0\n0\nmove {} 2,1,4 3 2,0,3\n", name("ABC"));
     let ([image, _, work, _], answer) = after(&list, b"", b"");
@@ -116,11 +119,9 @@ fn what_line_2_counts() {
         // The target of a `bsdiff`, and not N.
         (format!("bsdiff 0 0 {h} {h} 2,0,3 1 2,0,1\n"), 3),
         (format!("bsdiff 0 0 {h} {h} 4,0,1,0,1 3 2,0,3\n"), 2),
-        (format!("bsdiff 0 0 {h} {h} 2,4,4 2 2,0,2\n"), 0),
         (format!("stash {h} 2,0,1\nbsdiff 0 0 {h} {h} 2,5,7 1 - {h}:2,0,1\nnew 2,0,1\n"), 3),
         // A block counts as often as it is named, in one line or in several.
         ("zero 4,0,1,0,1\n".into(), 2),
-        ("zero 2,3,3\n".into(), 0),
         (format!("new 2,0,1\nzero 2,0,1\nmove {h} 2,0,1 1 2,0,1\n"), 3),
     ];
     for (lines, total) in lines {
@@ -221,7 +222,7 @@ fn sizes_up_to_the_largest_area() {
     for (total, lines, want) in [
         (0, most.clone(), (0, 0)),
         (0, format!("stash {h} 2,0,32769\n"), (9, 5)),
-        (0, format!("{most}stash {other} 2,0,0\n"), (0, 0)),
+        (0, format!("{most}stash {other} 2,0,0\n"), (6, 6)),
         (0, format!("{most}stash {other} 2,0,1\n"), (14, 6)),
         (0, format!("{most}free {h}\nstash {other} 2,0,32768\n"), (0, 0)),
         (32_768, format!("move {h} 2,0,32768 32768 2,1,32769\n"), (0, 0)),
@@ -271,10 +272,10 @@ fn command_lines() {
         (0, "bsdiff".into(), 6),
         (0, "bsdiff\n".into(), 6),
         (0, "bsdiff anything\n".into(), 6),
-        (0, "zero 2,0,0".into(), 6),
-        (0, "zero  2,0,0\n".into(), 6),
-        (0, "zero 2,0,0 \n".into(), 6),
-        (0, "ZERO 2,0,0\n".into(), 6),
+        (0, "zero 2,0,1".into(), 6),
+        (0, "zero  2,0,1\n".into(), 6),
+        (0, "zero 2,0,1 \n".into(), 6),
+        (0, "ZERO 2,0,1\n".into(), 6),
         (0, "zero\n".into(), 6),
         (0, "zero 2,0,4294967296\n".into(), 6),
         (4_294_967_295, "zero 2,0,4294967295\n".into(), 8),
@@ -283,36 +284,98 @@ fn command_lines() {
         (0, format!("free {}\n", h.to_uppercase()), 6),
         (0, format!("free {}\n", &h[1..]), 6),
         (0, format!("free {h}0\n"), 6),
-        (0, format!("move {h} 2,0,0 0 2,0,0\n"), 0),
-        (0, format!("move {h} 2,0,0 0 -\n"), 6),
-        (0, format!("move {h} 2,0,0 0 - \n"), 6),
-        (0, format!("move {h} 2,0,0 0 2,0,0 2,0,0\n"), 6),
-        (0, format!("move {h} 2,0,0 0 - {h}:2,0,0\n"), 10),
-        (0, format!("move {h} 2,0,0 0 2,9,9\n"), 8),
+        (1, format!("move {h} 2,0,1 1 2,0,1\n"), 0),
+        (1, format!("move {h} 2,0,1 1 -\n"), 6),
+        (1, format!("move {h} 2,0,1 1 - \n"), 6),
+        (1, format!("move {h} 2,0,1 1 2,0,1 2,0,1\n"), 6),
+        (1, format!("move {h} 2,0,1 1 - {h}:2,0,1\n"), 10),
+        (1, format!("move {h} 2,0,1 1 2,8,9\n"), 8),
         (4, format!("move {h} 2,0,4 4 2,0,9\n"), 8),
         (4, format!("move {h} 2,0,4 4 2,0,4\n"), 9),
         (1, format!("move {h} 2,0,1 1 2,0,4\n"), 9),
         (2, format!("move {h} 2,0,2 1 2,0,1\n"), 11),
         (1, format!("move {h} 2,0,1 1 2,0,2\n"), 11),
+        (1, format!("move {h} 2,0,1 0 2,0,1\n"), 11),
         (0, format!("stash {h} 2,0,4\n"), 9),
         (0, format!("stash {h} 2,0,3\n"), 14),
         (0, format!("stash {h} 2,0,2\nstash {h} 2,0,3\n"), 13),
-        (0, format!("stash {h} 2,0,0\nfree {h}\nfree {h}\n"), 10),
-        (0, format!("stash {h} 2,0,0\nfree {h}\nstash {h} 2,0,1\n"), 0),
+        (0, format!("stash {h} 2,0,1\nfree {h}\nfree {h}\n"), 10),
+        (0, format!("stash {h} 2,0,2\nfree {h}\nstash {h} 2,0,1\n"), 0),
         (2, format!("stash {h} 2,0,1\nmove {h} 2,0,2 2 - {h}:2,0,1 {h}:2,0,1\n"), 12),
         (2, format!("stash {h} 2,0,1\nmove {h} 2,0,2 2 - {h}:2,0,2\n"), 11),
+        (1, format!("stash {h} 2,0,1\nmove {h} 2,0,1 0 - {h}:2,0,1\n"), 11),
         (1, format!("stash {h} 2,0,1\nmove {h} 2,0,1 1 - {h}:2,1,2\n"), 12),
         (1, format!("stash {h} 2,0,1\nmove {h} 2,0,1 1 - {h}:2,0,4294967295\n"), 11),
+        (1, format!("stash {h} 2,0,1\nmove {h} 2,0,1 1 - {h}:2,4294967294,4294967295\n"), 12),
         (1, format!("stash {h} 2,0,1\nmove {h} 2,0,1 1 - {h}:2,0,2 {}:2,0,1\n", h.replace('d', "e")), 10),
         (2, format!("stash {h} 2,0,1\nmove {h} 2,0,2 2 2,0,1 2,0,2 {h}:2,1,2\n"), 11),
         (2, format!("stash {h} 2,0,1\nmove {h} 2,0,2 2 - {h}:2,0,1 {h}:2,1,2\n"), 0),
-        (1, format!("stash {h} 2,0,1\nmove {h} 2,0,1 1 - {h}:4,0,1,4294967295,4294967295\n"), 0),
         (2, format!("stash {h} 2,0,1\nmove {h} 2,0,2 2 2,0,1 2,0,1 {h}:2,1,2\n"), 0),
     ];
     for (total, text, want) in cases {
         let lines = text.matches('\n').count() + !text.ends_with('\n') as usize;
         let line = if want == 0 { 0 } else { 4 + lines };
         assert_eq!(refusal(&format!("3\n{total}\n1\n2\n{text}")), (want, line), "{text:?}");
+    }
+}
+
+/// An end that is its start is ill formed, whatever else is said of its line: 6 is the lowest number of a command line, but for 7.
+#[test]
+fn empty_ranges() {
+    let h = "da39a3ee5e6b4b0d3255bfef95601890afd80709";
+    // With a range of a block in the mark's place each line opens.
+    let lines = [
+        (1, "zero @\n".to_string()),
+        (0, "erase @\n".into()),
+        (1, "new @\n".into()),
+        (0, format!("stash {h} @\n")),
+        (1, format!("move {h} @ 1 2,0,1\n")),
+        (1, format!("move {h} 2,0,1 1 @\n")),
+        (1, format!("stash {h} 2,0,1\nmove {h} 2,0,1 1 - {h}:@\n")),
+        (2, format!("stash {h} 2,0,1\nmove {h} 2,0,2 2 @ 2,1,2 {h}:2,0,1\n")),
+        (2, format!("stash {h} 2,0,1\nmove {h} 2,0,2 2 2,0,1 @ {h}:2,1,2\n")),
+        (2, format!("stash {h} 2,0,1\nmove {h} 2,0,2 2 2,0,1 2,1,2 {h}:@\n")),
+        (1, format!("bsdiff 0 0 {h} {h} @ 1 2,0,1\n")),
+        (1, format!("bsdiff 0 0 {h} {h} 2,0,1 1 @\n")),
+        (1, format!("stash {h} 2,0,1\nbsdiff 0 0 {h} {h} 2,0,1 1 - {h}:@\n")),
+        (1, format!("stash {h} 2,0,1\nbsdiff 0 0 {h} {h} 2,0,1 2 2,0,1 @ {h}:2,1,2\n")),
+    ];
+    for (total, text) in &lines {
+        let list = format!("3\n{total}\n1\n1\n{text}");
+        let start = list.find('@').expect("a mark");
+        let line = list[..start].matches('\n').count() + 1;
+        assert_eq!(refusal(&list.replace('@', "2,0,1")), (0, 0), "{text:?}");
+        // Alone, before and behind that range, and between two: the set, and the byte in it. Some lie past the image, or at N and past it.
+        for (set, byte) in [
+            ("2,0,0", 4),
+            ("2,1,1", 5),
+            ("2,8,8", 5),
+            ("2,9,9", 5),
+            ("2,429496730,429496730", 20),
+            ("2,4294967294,4294967294", 22),
+            ("2,4294967295,4294967295", 11),
+            ("4,0,0,0,1", 4),
+            ("4,8,8,0,1", 5),
+            ("4,0,1,1,1", 9),
+            ("4,0,1,4294967295,4294967295", 15),
+            ("6,0,1,7,7,0,1", 9),
+            ("6,8,8,0,1,9,9", 5),
+        ] {
+            let want = Refusal { number: 6, line, byte: start + byte };
+            assert_eq!(whole_refusal(&list.replace('@', set)), want, "{set} in {text:?}");
+        }
+    }
+    // Before 8 to 14, 18 and 15; after an earlier line's; 7 is given by its word alone.
+    for (total, text, want) in [
+        (0, "zero 4,0,9,3,3\n".to_string(), (6, 5)),
+        (0, format!("move {h} 2,0,5 5 2,3,3\n"), (6, 5)),
+        (0, format!("move {h} 2,0,0 0 2,0,0\n"), (6, 5)),
+        (0, format!("free {h}\nzero 2,3,3\n"), (10, 5)),
+        (0, format!("bsdiff 9 9 {h} {h} 2,0,0 0 2,0,0\n"), (6, 5)),
+        (9, "zero 2,0,1\nnew 2,3,3\n".into(), (6, 6)),
+        (0, format!("imgdiff 0 0 {h} {h} 2,0,0 0 2,0,0\n"), (7, 5)),
+    ] {
+        assert_eq!(refusal(&format!("3\n{total}\n1\n1\n{text}")), want, "{text:?}");
     }
 }
 

@@ -161,6 +161,15 @@ fn a_list_altered_after_opening() {
         ("zero 2,1,9", 8, 0),
         ("zero 2,2,1", 6, 29),
         ("zero 2,2,0", 6, 28),
+        ("zero 2,1,1", 6, 29),
+        ("zero 2,0,0", 6, 28),
+        ("zero 2,9,9", 6, 29),
+        ("new 4,0,1,1,1", 6, 32),
+        ("zero 6,0,1,3,3,1,2", 6, 33),
+        ("erase 2,4294967295,4294967295", 6, 36),
+        (&format!("stash {} 2,3,3", name("D")), 6, 71),
+        (&format!("move {} 2,1,2 1 2,0,0", name("A")), 6, 77),
+        (&format!("bsdiff 0 0 {} {} 4,1,2,8,8 1 2,0,1", name("A"), name("A")), 6, 121),
         ("zero 2,1\n2", 6, 27),
         ("imgdiff 1,", 7, 0),
         ("imgdifg 1,", 6, 19),
@@ -194,27 +203,30 @@ fn a_list_altered_after_opening() {
             assert_eq!(said(&lent.call(on, b"", state)), (Outcome::Refused(Refusal { number: 6, line: 6, byte: length }), 0));
         }
     }
-    // Into a `new` that is no longer one: 17, and not kept.
-    for on in all() {
-        let mut lent = Lent::new("3\n1\n0\n0\nnew 2,0,1\n");
-        let first = lent.all(on, b"abc");
-        lent.list = b"3\n1\n0\n0\nbsdiff 1,\n".to_vec();
-        let second = lent.call(on, b"abc", first.state);
-        assert_eq!((said(&second), second.state), ((refused(17, 0), 0), first.state));
-        lent.list = b"3\n1\n0\n0\nnew 2,0,1\n".to_vec();
-        assert_eq!(said(&lent.call(on, b"", first.state)), (More, 0));
+    // Into a `new` that is no longer one, or that has an empty range: 17, and not kept.
+    for line in ["bsdiff 1,", "new 2,0,0", "new 2,9,9", "new 4,0,1,1,1", "new 6,0,1,0,0,1,2"] {
+        for on in all() {
+            let mut lent = Lent::new("3\n1\n0\n0\nnew 2,0,1\n");
+            let first = lent.all(on, b"abc");
+            lent.list = format!("3\n1\n0\n0\n{line}\n").into_bytes();
+            let state = State { lengths: Lengths::of(&lent.list, lent.rooms()), ..first.state };
+            let second = lent.call(on, b"abc", state);
+            assert_eq!((said(&second), second.state), ((refused(17, 0), 0), state), "{line}");
+            lent.list = b"3\n1\n0\n0\nnew 2,0,1\n".to_vec();
+            assert_eq!(said(&lent.call(on, b"", first.state)), (More, 0));
+        }
     }
 }
 
 #[test]
 fn the_most_stashes() {
-    // 256 one-block stashes of different bytes; one more is refused, freed room serves again.
+    // 256 one-block stashes of different bytes; one more is refused, though line 4 has room for its block. Freed room serves again.
     let most = MOST_STASHES;
     let block = |k: usize| [[k as u8; 4], [(k >> 8) as u8; 4]].concat().repeat(BLOCK / 8);
     let image: Vec<u8> = (0..=most).flat_map(block).collect();
     let named: Vec<String> = (0..=most).map(|k| hex(&digest(&block(k)))).collect();
     let last = format!("stash {} 2,{most},{}\n", named[most], most + 1);
-    let header = format!("3\n1\n{most}\n{most}\n");
+    let header = format!("3\n1\n{most}\n{}\n", most + 1);
     let mut list = header.clone();
     for (k, name) in named.iter().enumerate().take(most) {
         list += &format!("stash {name} 2,{k},{}\n", k + 1);
@@ -223,21 +235,17 @@ fn the_most_stashes() {
         let mut lent = Lent {
             list: format!("{list}{last}").into_bytes(),
             image: image.clone(),
-            stash: vec![9; most * BLOCK],
+            stash: vec![9; (most + 1) * BLOCK],
             work: vec![8; BLOCK],
             result: Vec::new(),
             patch: Vec::new(),
         };
         assert_eq!(lent.open(on).refusal, refusal_of(14, most + 5));
-        // Line 4 has room for a stash of no blocks, and line 3 has none for it.
-        let nothing = hex(&digest(b""));
-        lent.list = format!("{list}stash {nothing} 2,0,0\n").into_bytes();
-        assert_eq!(lent.open(on).refusal, refusal_of(14, most + 5));
         // In a call the lines before run, and what they held stays.
         let state = State { line: 5, at: header.len(), lengths: Lengths::of(&lent.list, lent.rooms()), ..State::ZERO };
         let answer = lent.call(on, b"", state);
         assert_eq!((said(&answer), answer.state.count), ((refused(14, most + 5), 0), most));
-        assert!(lent.stash[..] == image[..most * BLOCK]);
+        assert!(lent.stash == [&image[..most * BLOCK], &[9; BLOCK]].concat());
         // Held already comes before no room, at either end of the table.
         for k in [0, 63, 64, most - 1] {
             lent.list = format!("{list}stash {} 2,0,1\n", named[k]).into_bytes();
@@ -248,8 +256,46 @@ fn the_most_stashes() {
         let answer = lent.all(on, b"");
         assert_eq!(said(&answer), (Done, 0));
         assert_eq!(answer.state.count, most);
-        assert!(lent.stash[..] == image[BLOCK..]);
+        assert!(lent.stash == [&image[BLOCK..], &[9; BLOCK]].concat());
         assert!(lent.image[..BLOCK] == block(most - 1));
+    }
+}
+
+/// A stash of no blocks, which no list makes and no rule forbids a state: it can be freed, and no source takes anything from it.
+#[test]
+fn stashes_of_no_blocks() {
+    let (a, b, nothing) = (name("A"), name("B"), name(""));
+    // The state is at the first of these lines and holds nothing's hash, then A in a block.
+    for (lines, outcome, left, areas) in [
+        (format!("free {nothing}\n"), Done, 1, ["ABCDEFGH", "Ayz", "uvw", "rst"]),
+        (format!("free {nothing}\nfree {a}\n"), Done, 0, ["ABCDEFGH", "Ayz", "uvw", "rst"]),
+        (format!("free {a}\nfree {nothing}\nstash {b} 2,1,2\n"), Done, 1, ["ABCDEFGH", "Byz", "Bvw", "rst"]),
+        (format!("free {nothing}\nstash {nothing} 2,1,2\n"), refused(16, 6), 1, ["ABCDEFGH", "Ayz", "Bvw", "rst"]),
+        (format!("move {a} 2,7,8 1 - {a}:2,0,1\n"), Done, 2, ["ABCDEFGA", "Ayz", "Avw", "rst"]),
+        (format!("stash {nothing} 2,1,2\n"), refused(13, 5), 2, ["ABCDEFGH", "Ayz", "uvw", "rst"]),
+        (format!("move {a} 2,7,8 1 - {nothing}:2,0,1\n"), refused(11, 5), 2, ["ABCDEFGH", "Ayz", "uvw", "rst"]),
+        (format!("move {nothing} 2,7,8 0 - {nothing}:2,0,1\n"), refused(11, 5), 2, ["ABCDEFGH", "Ayz", "uvw", "rst"]),
+        (format!("move {a} 2,7,8 1 - {a}:2,0,1 {nothing}:2,1,2\n"), refused(11, 5), 2, ["ABCDEFGH", "Ayz", "uvw", "rst"]),
+        (format!("move {a} 2,6,8 2 2,0,1 2,0,1 {nothing}:2,1,2\n"), refused(11, 5), 2, ["ABCDEFGH", "Ayz", "uvw", "rst"]),
+        (format!("bsdiff 0 0 {a} {a} 2,7,8 1 - {a}:2,0,1 {nothing}:2,1,2\n"), refused(11, 5), 2, ["ABCDEFGH", "Ayz", "uvw", "rst"]),
+        (
+            format!("move {a} 2,7,8 1 - {a}:2,0,1 {nothing}:2,1,1\n"),
+            Outcome::Refused(Refusal { number: 6, line: 5, byte: 157 }),
+            2,
+            ["ABCDEFGH", "Ayz", "uvw", "rst"],
+        ),
+    ] {
+        for on in all() {
+            let mut lent = Lent::new(&format!("3\n1\n2\n2\n{lines}"));
+            lent.stash[..BLOCK].fill(b'A');
+            let mut state = State { line: 5, at: 8, count: 2, lengths: Lengths::of(&lent.list, lent.rooms()), ..State::ZERO };
+            state.hashes[..20].copy_from_slice(&digest(b""));
+            state.hashes[20..40].copy_from_slice(&digest(&blocks("A")));
+            state.sizes[1] = 1;
+            let answer = lent.call(on, b"", state);
+            assert_eq!((said(&answer), answer.state.count), ((outcome, 0), left), "{lines}");
+            assert_eq!(lent.letters(), areas, "{lines}");
+        }
     }
 }
 
@@ -334,7 +380,7 @@ fn lent_areas(rooms: Rooms) -> Lent {
 fn areas_and_a_list_that_no_longer_fit() {
     // The lengths are those that the state holds, and they alone would now be refused: 1, then 2.
     for on in all() {
-        let list = b"3\n0\n0\n0\nzero 2,0,0\n";
+        let list = b"3\n0\n0\n0\nerase 2,0,1\n";
         let rooms = Rooms { image: BLOCK, stash: BLOCK, work: BLOCK, result: BLOCK, patch: 3 };
         let state = on.open(list, rooms);
         for other in [

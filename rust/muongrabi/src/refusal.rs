@@ -24,7 +24,7 @@ impl Refusal {
     pub const OTHER_VERSION: usize = 4;
     /// Line 3 is over the limit of stashes; else line 4 is over the stash area.
     pub const HEADER_LIMIT: usize = 5;
-    /// A command line is ill formed, or its word is unknown; [`byte`](Refusal::byte) says where.
+    /// A command line is ill formed, as by a range whose end is not above its start, or its word is unknown; [`byte`](Refusal::byte) says where.
     pub const LINE_FORM: usize = 6;
     /// The line's first word is `imgdiff`.
     pub const UNSUPPORTED: usize = 7;
@@ -99,6 +99,9 @@ impl Refusal {
     /// assert_eq!(byte("3\n0\n0\n0\nzero 3,1,2,3\n"), Some(14));
     /// // An end below its start, at the LF: 3 could have become 30.
     /// assert_eq!(byte("3\n0\n0\n0\nzero 2,5,3\n"), Some(18));
+    /// // An empty range likewise; but no digit may follow an end of 0.
+    /// assert_eq!(byte("3\n0\n0\n0\nzero 2,8,8\n"), Some(18));
+    /// assert_eq!(byte("3\n0\n0\n0\nzero 2,0,0\n"), Some(17));
     /// // An end past the image is no fault of form.
     /// assert_eq!(byte("3\n0\n0\n0\nzero 2,5,30\n"), None);
     /// ```

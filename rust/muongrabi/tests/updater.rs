@@ -208,6 +208,9 @@ fn an_ill_formed_line_has_its_byte() {
         ("3\n0\n00\n0\n", Refusal::new(Refusal::HEADER_FORM, 3, 5)),
         ("3\n0\n0\n0\nzero 2,0,1\nzap\n", Refusal::new(Refusal::LINE_FORM, 6, 20)),
         ("3\n0\n0\n0\nzero 2,5,3\n", Refusal::new(Refusal::LINE_FORM, 5, 18)),
+        ("3\n0\n0\n0\nzero 2,8,8\n", Refusal::new(Refusal::LINE_FORM, 5, 18)),
+        ("3\n0\n0\n0\nzero 2,0,0\n", Refusal::new(Refusal::LINE_FORM, 5, 17)),
+        ("3\n1\n0\n0\nzero 4,0,1,5,5\n", Refusal::new(Refusal::LINE_FORM, 5, 22)),
         ("3\n0\n0\n0\nzero 2,0,1", Refusal::new(Refusal::LINE_FORM, 5, 18)),
     ] {
         assert_eq!(open(list.as_bytes(), lengths), Err(refusal), "{list:?}");
@@ -220,11 +223,13 @@ fn an_ill_formed_line_has_its_byte() {
     // In a call, of a line altered since opening; and it stays.
     let mut lent = Lent::new();
     let state = open(b"3\n1\n0\n0\nzero 2,0,1\n", lent.areas().lengths()).expect("a good list");
-    let mut updater = Updater::resume(b"3\n1\n0\n0\nzero 3,0,1\n", lent.areas(), state);
-    let refusal = Refusal::new(Refusal::LINE_FORM, 5, 14);
-    for _ in 0..2 {
-        assert_eq!(updater.write(b"data"), Outcome::Refused(refusal));
-        assert_eq!(updater.state().refusal(), Some(refusal));
+    for (altered, byte) in [(b"3\n1\n0\n0\nzero 3,0,1\n", 14), (b"3\n1\n0\n0\nzero 2,1,1\n", 18)] {
+        let mut updater = Updater::resume(altered, lent.areas(), state.clone());
+        let refusal = Refusal::new(Refusal::LINE_FORM, 5, byte);
+        for _ in 0..2 {
+            assert_eq!(updater.write(b"data"), Outcome::Refused(refusal));
+            assert_eq!(updater.state().refusal(), Some(refusal));
+        }
     }
     assert_eq!(lent.letters(), ["ABCDEFGH", "x", "uvw", "rs"]);
 }

@@ -7,6 +7,7 @@ use Rattle.text.specs.Expected.{onExpected}
 use Rattle.text.specs.declared.expected.Expected.{Expected}
 use Rattle.text.specs.declared.expected.Expected.the-variants as expected
 use Rattle.text.proofs.ExpectedLaws.{expected-fault}
+use Rattle.ranges.specs.Ranges.{leastBlocks}
 use Rattle.command.specs.declared.word.HashWord.{HashWord}
 use Rattle.command.specs.declared.Command.{Command}
 use Rattle.command.specs.declared.Command.the-variants.{Bad}
@@ -15,7 +16,7 @@ use Rattle.command.proofs.after_hash.Statement.{statement}
 use Rattle.command.proofs.after_hash.Tie as tie
 
 by-word : (l : List ℕ) (read : Expected) (w : HashWord) {v : HashWord} {at : ℕ} {a : Command} → read ≡ expected.Past at → w ≡ v →
-    a ≡ afterHash l v at → a ≡ onExpected read (afterHash l w) Bad
+    a ≡ afterHash leastBlocks l v at → a ≡ onExpected read (afterHash leastBlocks l w) Bad
 by-word l read w e f h = rw (e, f) h
 
 pub after-hash-spec : {M : Type 1} → statement M

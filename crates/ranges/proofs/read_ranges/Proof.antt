@@ -41,57 +41,59 @@ from-follow at blocks last r (ok rs next) = good at next (omega arith) (omega ar
 from-follow at blocks last r (fault p) = refl
 
 -- before the loop
-module _ (s : List ℕ) (at : ℕ) where
-  count-bad : {m : Number} {p : ℕ} {a : Ranges} → m ≡ numberFor need.Count s at → m ≡ number.Bad p → a ≡ ranges.Bad p → a ≡ rangesAt s at
+module _ (least : ℕ) (s : List ℕ) (at : ℕ) where
+  count-bad : {m : Number} {p : ℕ} {a : Ranges} → m ≡ numberFor need.Count s at → m ≡ number.Bad p → a ≡ ranges.Bad p → a ≡ rangesAt least s at
   unfolding rangesAt setAt summary
   count-bad e f h = rw (sym e ∙ f) h
 
   turn-start : {count from : ℕ} → numberFor need.Count s at ≡ number.Good count from →
-      summaryFrom at 0 0 (pairsAt (count / 2) s from) ≡ rangesAt s at
+      summaryFrom at 0 0 (pairsAt least (count / 2) s from) ≡ rangesAt least s at
   unfolding rangesAt setAt
-  turn-start {count} {from} e = rw e (from-start at (pairsAt (count / 2) s from))
+  turn-start {count} {from} e = rw e (from-start at (pairsAt least (count / 2) s from))
 
 -- one turn of the loop
-module _ (s : List ℕ) (i n at blocks last : ℕ) where
-  turn-end : n ≡ 0 → summaryFrom at blocks last (pairsAt n s i) ≡ ranges.Good (record { at = at; blocks = blocks; end = last }) i
+module _ (least : ℕ) (s : List ℕ) (i n at blocks last : ℕ) where
+  turn-end : n ≡ 0 → summaryFrom at blocks last (pairsAt least n s i) ≡ ranges.Good (record { at = at; blocks = blocks; end = last }) i
   unfolding summaryFrom pairsAt sizeOf endOf
   turn-end z = rw z (good at i (omega arith) (omega arith))
 
   module _ (h : 0 < n) where
-    turn-bad : {p : ℕ} → pairAt s i ≡ pair.Bad p → summaryFrom at blocks last (pairsAt n s i) ≡ ranges.Bad p
+    turn-bad : {p : ℕ} → pairAt least s i ≡ pair.Bad p → summaryFrom at blocks last (pairsAt least n s i) ≡ ranges.Bad p
     unfolding summaryFrom pairsAt
     turn-bad {p} e = go n h
       where
-        go : (n : ℕ) → 0 < n → summaryFrom at blocks last (pairsAt n s i) ≡ ranges.Bad p
+        go : (n : ℕ) → 0 < n → summaryFrom at blocks last (pairsAt least n s i) ≡ ranges.Bad p
         go zero l = absurd (omega arith)
         go (suc n) l = rw e
 
-    turn-more : {start end next : ℕ} → pairAt s i ≡ pair.Good start end next →
-        summaryFrom at blocks last (pairsAt n s i) ≡ summaryFrom at (blocks + (end - start)) (max last end) (pairsAt (n - 1) s next)
+    turn-more : {start end next : ℕ} → pairAt least s i ≡ pair.Good start end next →
+        summaryFrom at blocks last (pairsAt least n s i) ≡ summaryFrom at (blocks + (end - start)) (max last end) (pairsAt least (n - 1) s next)
     unfolding pairsAt
     turn-more {start} {end} {next} e = go n h
       where
         go : (n : ℕ) → 0 < n →
-            summaryFrom at blocks last (pairsAt n s i) ≡ summaryFrom at (blocks + (end - start)) (max last end) (pairsAt (n - 1) s next)
+            summaryFrom at blocks last (pairsAt least n s i) ≡ summaryFrom at (blocks + (end - start)) (max last end) (pairsAt least (n - 1) s next)
         go zero l = absurd (omega arith)
-        go (suc n) l = rw (e, sub-one (suc n)) (from-follow at blocks last (record { start = start; end = end }) (pairsAt n s next))
+        go (suc n) l = rw (e, sub-one (suc n)) (from-follow at blocks last (record { start = start; end = end }) (pairsAt least n s next))
 
 abbrev Inv-loop : tie.InvT-loop
-Inv-loop s at count from left₀ blocks₀ last₀ i₀ left blocks last i =
+Inv-loop s at least count from left₀ blocks₀ last₀ i₀ left blocks last i =
     (blocks + left * largest ≤ (count / 2) * largest)
-    × (summaryFrom at blocks last (pairsAt left s i) ≡ rangesAt s at)
+    × (summaryFrom at blocks last (pairsAt least left s i) ≡ rangesAt least s at)
 
 abbrev μ-loop : tie.MeasureT-loop
-μ-loop s at count from left₀ blocks₀ last₀ i₀ left blocks last i = left
+μ-loop s at least count from left₀ blocks₀ last₀ i₀ left blocks last i = left
 
 loop-holds : tie.Need-loop-holds Inv-loop μ-loop
-loop-holds c = (omega arith, turn-start _ _ (sym (c .before .before .before .read-number-for .ensures) ∙ c .before .count .given .1))
+loop-holds c = (omega arith, turn-start _ _ _ (sym (c .before .before .before .read-number-for .ensures) ∙ c .before .count .given .1))
 
 returns : tie.Need-returns Inv-loop μ-loop
-returns c = sym (turn-bad _ _ _ _ _ _ (omega arith) (cc)) ∙ c .before .before .before .before .before .loop .inv .1
+returns c =
+    sym (turn-bad _ _ _ _ _ _ _ (omega arith) (sym (c .before .before .before .read-pair .ensures) ∙ c .before .p2 .given .1))
+    ∙ c .before .before .before .before .before .loop .inv .1
 
 sub-blocks : tie.Need-sub-blocks Inv-loop μ-loop
-sub-blocks c = pair-order _ _ (sym (c .before .before .before .read-pair .ensures) ∙ c .before .start .given .1)
+sub-blocks c = pair-order _ _ _ (sym (c .before .before .before .read-pair .ensures) ∙ c .before .start .given .1)
 
 cast-blocks : tie.Need-cast-blocks Inv-loop μ-loop
 cast-blocks c = omega arith
@@ -111,14 +113,14 @@ loop-again c =
     let r = c .before .before in
     let m : c .if1 .last ≡ max (l .last) (r .start .given .0 .1 .0) = ⊎-elim (λ w. omega arith) (λ w. omega arith) (c .if1 .came) in (
       omega arith,
-      rw m (sym (turn-more _ _ _ _ _ _ (omega arith) (sym (r .before .before .read-pair .ensures) ∙ r .start .given .1)) ∙ l .inv .1),
+      rw m (sym (turn-more _ _ _ _ _ _ _ (omega arith) (sym (r .before .before .read-pair .ensures) ∙ r .start .given .1)) ∙ l .inv .1),
     )
 
 returns-2 : tie.Need-returns-2 Inv-loop μ-loop
 returns-2 c = search count-bad
 
 returns-3 : tie.Need-returns-3 Inv-loop μ-loop
-returns-3 c = sym (turn-end _ _ _ _ _ _ (omega arith)) ∙ c .before .loop .inv .1
+returns-3 c = sym (turn-end _ _ _ _ _ _ _ (omega arith)) ∙ c .before .loop .inv .1
 
 pub read-ranges-spec : {M : Type 1} → statement M
 read-ranges-spec =

@@ -2,6 +2,7 @@
 use Prim.Native.Nat.{ℕ}
 use mathlib.Core.Path.{_≡_, ap}
 use mathlib.Core.List.{List}
+use Rattle.ranges.specs.Ranges.{leastBlocks}
 use Rattle.state.specs.Stashes.{Stash}
 use Rattle.command.specs.Commands.{commandOf}
 use Rattle.command.specs.declared.Line.{Line}
@@ -11,8 +12,8 @@ use borrow.Author.Needs.{needs}
 use Rattle.rules.proofs.check_line.Statement.{statement}
 use Rattle.rules.proofs.check_line.Tie as tie
 
-checked : (l : List ℕ) (terms : Terms) (held : List Stash) {line : Line} {refusal : ℕ} → line ≡ commandOf l →
-    refusal ≡ refusalFor l terms held (line .hash) (line .command) → record { line = line; refusal = refusal } ≡ checkedOf l terms held
+checked : (l : List ℕ) (terms : Terms) (held : List Stash) {line : Line} {refusal : ℕ} → line ≡ commandOf leastBlocks l →
+    refusal ≡ refusalFor l terms held (line .hash) (line .command) → record { line = line; refusal = refusal } ≡ checkedOf leastBlocks l terms held
 unfolding refusalOf checkedOf
 checked l terms held {line} e f = rw f (ap (λ (k : Line). record { line = k; refusal = refusalFor l terms held (k .hash) (k .command) }) e)
 

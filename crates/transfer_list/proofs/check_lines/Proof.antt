@@ -11,6 +11,7 @@ use lib.ListN.{length, length-replicate}
 use Rattle.text.specs.Hash.{hashBytes}
 use Rattle.text.specs.Line.{lineAt}
 use Rattle.text.proofs.LineLaws.{line-some, line-within}
+use Rattle.ranges.specs.Ranges.{leastBlocks}
 use Rattle.state.specs.Limits.{mostStashes, tableBytes}
 use Rattle.state.specs.Refusals.{none, totalDiffers}
 use Rattle.state.specs.Stashes.{Table, Whole, tableAt, emptyTable, heldIn}
@@ -44,7 +45,7 @@ length-is list {at} w e = rw e (line-some list at w, line-within list at w)
 
 -- the refusal of all the lines
 abbrev whole : List ℕ → Terms → Header → Refusal
-whole list terms h = linesRefusal (suc (length list)) list terms h firstLine (h .first) [] 0
+whole list terms h = linesRefusal leastBlocks (suc (length list)) list terms h firstLine (h .first) [] 0
 
 -- n is more than the lines left; what line 2 counts is summed up to a bound
 record Checking (list : List ℕ) (terms : Terms) (h : Header) (t : Table) (line at counted : ℕ) : Type 0 where
@@ -54,7 +55,7 @@ record Checking (list : List ℕ) (terms : Terms) (h : Header) (t : Table) (line
   sum : counted ≡ bounded total
   table : Whole t
   lines : line ≤ at + firstLine
-  same : linesRefusal n list terms h line at (heldIn t) total ≡ whole list terms h
+  same : linesRefusal leastBlocks n list terms h line at (heldIn t) total ≡ whole list terms h
 
 module _ {list : List ℕ} {terms : Terms} {h : Header} {t : Table} {line at counted : ℕ} (v : Checking list terms h t line at counted) where
   -- 15
@@ -70,15 +71,15 @@ module _ {list : List ℕ} {terms : Terms} {h : Header} {t : Table} {line at cou
     unfolding totalRefusal
     none-refused e = rw (eq-eqb (v .total) (h .total) (omega (arith, v .sum))) at ended
 
-  module _ {l : List ℕ} {k : Checked} (w : at < length list) (e : l ≡ lineAt list at) (f : k ≡ checkedOf l terms (heldIn t)) where
+  module _ {l : List ℕ} {k : Checked} (w : at < length list) (e : l ≡ lineAt list at) (f : k ≡ checkedOf leastBlocks l terms (heldIn t)) where
     left : 0 < v .n
     left = omega (arith, v .enough)
 
-    number-is : k .refusal ≡ refusalOf (lineAt list at) terms (heldIn t)
+    number-is : k .refusal ≡ refusalOf leastBlocks (lineAt list at) terms (heldIn t)
     unfolding checkedOf
     number-is = ap (λ (c : Checked). c .refusal) f ∙ rw e
 
-    line-is : k .line ≡ commandOf (lineAt list at)
+    line-is : k .line ≡ commandOf leastBlocks (lineAt list at)
     unfolding checkedOf
     line-is = ap (λ (c : Checked). c .line) f ∙ rw e
 
@@ -91,11 +92,11 @@ module _ {list : List ℕ} {terms : Terms} {h : Header} {t : Table} {line at cou
     -- a fault lies within its line
     fault-room : {f : Fault} {p : ℕ} → f ≡ faultOf (k .line .command) → f ≡ fault.At p → at + p ≤ length list
     fault-room {f} {p} q g =
-        let z : commandOf (lineAt list at) .command ≡ Bad p = fault-bad (commandOf (lineAt list at) .command) (rw (sym line-is) (sym q ∙ g)) in
+        let z : commandOf leastBlocks (lineAt list at) .command ≡ Bad p = fault-bad (commandOf leastBlocks (lineAt list at) .command) (rw (sym line-is) (sym q ∙ g)) in
         omega (arith, fault-within (lineAt list at) z, line-within list at w)
 
     module _ (most : terms .stashes ≤ mostStashes) (z : k .refusal ≡ none) where
-      passes : refusalOf (lineAt list at) terms (heldIn t) ≡ none
+      passes : refusalOf leastBlocks (lineAt list at) terms (heldIn t) ≡ none
       passes = sym number-is ∙ z
 
       hash-size : length (k .line .hash) ≡ hashBytes

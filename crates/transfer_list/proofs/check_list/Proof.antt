@@ -7,6 +7,7 @@ use native.Mathlib.Omega.{arith}
 use borrow.Author.Needs.{needs}
 use borrow.Author.Tests.{ne-eqb}
 use lib.ListN.{length}
+use Rattle.ranges.specs.Ranges.{leastBlocks}
 use Rattle.state.specs.Limits.{mostListBytes, mostStashes}
 use Rattle.state.specs.Refusals.{none}
 use Rattle.state.specs.States.{noRefusal}
@@ -24,7 +25,7 @@ use Rattle.transfer_list.proofs.check_list.Tie as tie
 
 -- what `openRefusal` says, by cases
 module _ (s : List ℕ) (lengths : Lengths) {start : Refusal} (e : start ≡ startRefusal s lengths) where
-  start-refused : (start .number ≡ none → ⊥) → start ≡ openRefusal s lengths
+  start-refused : (start .number ≡ none → ⊥) → start ≡ openRefusal leastBlocks s lengths
   unfolding openRefusal
   start-refused n = e ∙ rw (ne-eqb (startRefusal s lengths .number) none (λ q. n (ap (λ (r : Refusal). r .number) e ∙ q)))
 
@@ -32,7 +33,7 @@ module _ (s : List ℕ) (lengths : Lengths) {start : Refusal} (e : start ≡ sta
     started : startRefusal s lengths .number ≡ none
     started = sym (ap (λ (r : Refusal). r .number) e) ∙ z
 
-    no-header : {line byte : ℕ} → read ≡ Bad line byte → noRefusal ≡ openRefusal s lengths
+    no-header : {line byte : ℕ} → read ≡ Bad line byte → noRefusal ≡ openRefusal leastBlocks s lengths
     unfolding openRefusal commandsRefusal
     no-header g = rw (started, sym f ∙ g)
 
@@ -43,7 +44,7 @@ module _ (s : List ℕ) (lengths : Lengths) {start : Refusal} (e : start ≡ sta
           let q = same-header (sym (o .read) ∙ sym f ∙ g) in
           (o .list, omega (arith, o .stashes, ap (λ (x : Header). x .stashes) q, ap (λ (l : Terms). l .stashes) k))
 
-      lines-refused : {r : Refusal} → r ≡ linesRefusal (suc (length s)) s terms h firstLine (h .first) [] 0 → r ≡ openRefusal s lengths
+      lines-refused : {r : Refusal} → r ≡ linesRefusal leastBlocks (suc (length s)) s terms h firstLine (h .first) [] 0 → r ≡ openRefusal leastBlocks s lengths
       unfolding openRefusal commandsRefusal
       lines-refused l = rw (started, sym f ∙ g) (l ∙ rw k)
 

@@ -6,6 +6,7 @@ use Prim.Native.Nat.{ℕ}
 use native.Mathlib.Omega.{arith}
 use borrow.Author.Needs.{needs}
 use borrow.Author.Tests.{ne-eqb}
+use Rattle.ranges.specs.Ranges.{leastBlocks}
 use Rattle.state.specs.Refusals.{none}
 use Rattle.state.specs.States.{noRefusal, stateAt}
 use Rattle.state.specs.declared.Lengths.{Lengths}
@@ -20,24 +21,24 @@ use Rattle.transfer_list.proofs.open.Statement.{statement}
 use Rattle.transfer_list.proofs.open.Tie as tie
 
 -- what `openState` says, by cases
-module _ (s : List ℕ) (lengths : Lengths) {r : Refusal} {t : State} (e : r ≡ openRefusal s lengths) where
-  refused : (r .number ≡ none → ⊥) → t ≡ stateAt 0 0 r noLengths → t ≡ openState s lengths
+module _ (s : List ℕ) (lengths : Lengths) {r : Refusal} {t : State} (e : r ≡ openRefusal leastBlocks s lengths) where
+  refused : (r .number ≡ none → ⊥) → t ≡ stateAt 0 0 r noLengths → t ≡ openState leastBlocks s lengths
   unfolding openState refusedState
   refused n f =
       f
       ∙ ap refusedState e
-      ∙ rw (ne-eqb (openRefusal s lengths .number) none (λ q. n (ap (λ (x : Refusal). x .number) e ∙ q)))
+      ∙ rw (ne-eqb (openRefusal leastBlocks s lengths .number) none (λ q. n (ap (λ (x : Refusal). x .number) e ∙ q)))
 
   module _ (z : r .number ≡ none) {read : HeaderRead} (f : read ≡ headerOf s) where
-    accepted : t ≡ stateAt firstLine (firstAt read) noRefusal lengths → t ≡ openState s lengths
+    accepted : t ≡ stateAt firstLine (firstAt read) noRefusal lengths → t ≡ openState leastBlocks s lengths
     unfolding openState acceptedState
     accepted g = g ∙ rw (sym (ap (λ (x : Refusal). x .number) e) ∙ z, f)
 
-    accepted-good : {h : Header} → read ≡ Good h → t ≡ stateAt firstLine (h .first) noRefusal lengths → t ≡ openState s lengths
+    accepted-good : {h : Header} → read ≡ Good h → t ≡ stateAt firstLine (h .first) noRefusal lengths → t ≡ openState leastBlocks s lengths
     unfolding firstAt
     accepted-good q g = accepted (rw q g)
 
-    accepted-bad : {line byte : ℕ} → read ≡ Bad line byte → t ≡ stateAt firstLine 0 noRefusal lengths → t ≡ openState s lengths
+    accepted-bad : {line byte : ℕ} → read ≡ Bad line byte → t ≡ stateAt firstLine 0 noRefusal lengths → t ≡ openState leastBlocks s lengths
     unfolding firstAt
     accepted-bad q g = accepted (rw q g)
 

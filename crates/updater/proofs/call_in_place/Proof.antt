@@ -8,6 +8,7 @@ use native.Mathlib.Omega.{arith}
 use borrow.Author.Needs.{needs}
 use borrow.Author.Tests.{not-true, not-false}
 use lib.ListN.{length}
+use Rattle.ranges.specs.Ranges.{leastBlocks}
 use Rattle.state.specs.Limits.{tableBytes, mostStashes}
 use Rattle.state.specs.States.{stateWith}
 use Rattle.possible.specs.Possible.{isPossible}
@@ -43,7 +44,7 @@ hashes c = omega arith
 sizes : (c : tie.After-terms-for) → length (start (else-2 c) .args .sizes .now) ≡ mostStashes
 sizes c = omega arith
 
-possible : (c : tie.Else2) → isPossible (text (start c)) (lengthsAt (text (start c)) (first (start c) .areas)) (first (start c) .state) ≡ true
+possible : (c : tie.Else2) → isPossible leastBlocks (text (start c)) (lengthsAt (text (start c)) (first (start c) .areas)) (first (start c) .state) ≡ true
 possible c = sym (c .before .is-possible .ensures) ∙ not-false _ (c .if2 .left)
 
 returns : tie.Need-returns

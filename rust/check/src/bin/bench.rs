@@ -274,7 +274,7 @@ fn patch_in(source: &[u8], target: &[u8], add: usize, extra: usize) -> Vec<u8> {
     patch_of(&records)
 }
 
-/// Both hashes are in these times, as in every run of such a line; the last one is of reading records alone.
+/// Both hashes are in these times, as in every run of such a line; the last one is of reading records, and of the hash of one block.
 fn patches<S: Side>() {
     let blocks = 4_096;
     let start = some_bytes(blocks * BLOCK);
@@ -313,9 +313,9 @@ fn patches<S: Side>() {
         line(&format!("{lines} patches of 16 blocks, {name}"), times, lines * PART * BLOCK);
     }
 
-    let nothing = hex(&digest(b""));
+    let h = hex(&digest(&start[..BLOCK]));
     let patch = patch_of(&vec![Record { add: Vec::new(), extra: Vec::new(), seek: 1 }; 1_000_000]);
-    let list = format!("3\n1\n0\n0\nbsdiff 0 {} {nothing} {nothing} 2,0,1 0 2,0,0\n", patch.len());
+    let list = format!("3\n1\n0\n0\nbsdiff 0 {} {h} {h} 2,0,1 1 2,0,1\n", patch.len());
     let list = list.as_bytes();
     let times = turns(
         || {
@@ -371,11 +371,14 @@ fn openings<S: Side>() {
 
     // What builders write: moves, some stashes with the moves that use them, erased and zeroed ranges.
     let ordinary = fill_list(64, 4_096, "", |k| {
-        let n = rng.between(1, 60);
+        let n = rng.between(2, 60);
         let (to, from) = (rng.below(image - n), rng.below(image - n));
         let h = name(k);
         match k % 10 {
-            0 => (n, format!("stash {h} 4,{from},{},{to},{to}\nmove {h} 2,{to},{} {n} - {h}:2,0,{n}\nfree {h}\n", from + n, to + n)),
+            0 => {
+                let stash = format!("stash {h} 4,{from},{},{},{}", from + 1, from + 1, from + n);
+                (n, format!("{stash}\nmove {h} 2,{to},{} {n} - {h}:2,0,{n}\nfree {h}\n", to + n))
+            }
             1 => {
                 let more = n + 1;
                 let both = format!("move {h} 2,{to},{} {more} 2,{to},{} 2,0,1 {h}:2,1,{more}", to + more, to + 1);
@@ -391,14 +394,16 @@ fn openings<S: Side>() {
     });
     opening::<S>("4 MiB of ordinary lines", &ordinary, areas, 0);
 
-    let ranges = format!("3\n0\n0\n0\nzero 2000000{}\n", ",0,0".repeat(1_000_000));
+    let ranges = format!("3\n1000000\n0\n0\nzero 2000000{}\n", ",0,1".repeat(1_000_000));
     opening::<S>("one line of a million ranges", ranges.as_bytes(), areas, 0);
-    let lines = format!("3\n0\n0\n0\n{}", "new 2,0,0\n".repeat(400_000));
+    let empty = format!("3\n1000000\n0\n0\nzero 2000000{},8,8\n", ",0,1".repeat(999_999));
+    opening::<S>("the same, the last of them empty", empty.as_bytes(), areas, 6);
+    let lines = format!("3\n400000\n0\n0\n{}", "new 2,0,1\n".repeat(400_000));
     opening::<S>("400,000 lines of ten bytes", lines.as_bytes(), areas, 0);
     let names: Vec<String> = (0..1_000).map(name).collect();
-    let hashes = fill_list(1, 0, "", |k| {
+    let hashes = fill_list(1, 1, "", |k| {
         let h = &names[k % names.len()];
-        (0, format!("stash {h} 2,0,0\nfree {h}\n"))
+        (0, format!("stash {h} 2,0,1\nfree {h}\n"))
     });
     opening::<S>("a list full of hashes", &hashes, areas, 0);
 
@@ -428,8 +433,6 @@ fn openings<S: Side>() {
     let one = format!("stash {h} 2,0,1\n");
     let wide = fill_list(1, 1, &one, |_| (2, format!("move {h} 2,0,2 2 2,0,1 2,0,4294967295 {h}:2,0,4294967295\n")));
     opening::<S>("L of 2,0,4294967295 in every line", &wide, areas, 11);
-    let far = fill_list(1, 1, &one, |_| (2, format!("move {h} 2,0,2 2 2,0,1 4,0,1,4294967295,4294967295 {h}:4,1,2,4294967295,4294967295\n")));
-    opening::<S>("empty ranges at 4294967295 in every L", &far, areas, 0);
 
     let most = MOST_STASHES;
     let stashes: String = (0..most).map(|k| format!("stash {} 2,{k},{}\n", name(k), k + 1)).collect();
@@ -484,12 +487,12 @@ fn new_data<S: Side>() {
             let blocks = bytes.div_ceil(BLOCK);
             let mut list = format!("3\n{blocks}\n0\n0\n");
             while list.len() < before {
-                list += "zero 6,0,0,1,1,2,2\n";
+                list += "erase 2,0,1\n";
             }
             list += &format!("new 2,0,{blocks}\n");
             let data = some_bytes(bytes);
             let list = list.as_bytes();
-            let mut image = vec![0u8; blocks.max(2) * BLOCK];
+            let mut image = vec![0u8; blocks * BLOCK];
             let mut plain_image = image.clone();
             let times =
                 turns(|| new_times::<S>(list, &mut image, data.chunks(size)), || new_times::<Plain>(list, &mut plain_image, data.chunks(size)));
@@ -499,10 +502,11 @@ fn new_data<S: Side>() {
     }
 }
 
-/// A call for each piece; the opening is not timed.
+/// A call for each piece. The opening is not timed, nor a call that brings it to the `new`.
 fn new_times<'a, S: Side>(list: &[u8], image: &mut [u8], pieces: impl Iterator<Item = &'a [u8]>) -> Duration {
     let mut areas = Areas { image, stash: &mut [], work: &mut [], result: &mut [], patch: &[] };
     let Ok(mut state) = S::open(list, areas.lengths()) else { panic!("the list does not open") };
+    assert_eq!(S::call(list, areas.reborrow(), &[], &mut state), (Outcome::More, 0));
     timed(|| {
         for piece in pieces {
             let (outcome, taken) = S::call(list, areas.reborrow(), piece, &mut state);

@@ -1,8 +1,9 @@
 //! Compares the proved library with the plain implementation on seeded cases.
 //! usage: differential [--sparse | --lines] [--cases N] [--seed S] [--first K] [--self] [--out FOLDER]
 //! Lists are run; with --sparse, sparse files are loaded, by the slow model too; with --lines, ill-formed lines are opened, by the slow model too,
-//! and number, line and byte compared. --self takes the slow model in the library's place. A failing case is written whole to FOLDER
-//! (default: here). In a run of 5,000 cases or more it is a failure too when something of the coverage never occurred.
+//! and number, line and byte compared. Openings by the plain implementation are held to what they were when ranges might be empty, too.
+//! --self takes the slow model in the library's place. A failing case is written whole to FOLDER (default: here). In a run of 5,000 cases or more
+//! it is a failure too when something of the coverage never occurred.
 
 use check::compare::{Checker, LineChecker, Series, SparseChecker};
 use check::{Implementation, Library, Model};

@@ -131,7 +131,6 @@ fn far_end(other: &dyn Implementation, fast: bool) -> Result<(), String> {
         (b"3\n2097152\n0\n0\nnew 4,0,1048576,0,1048576\n", 2 * whole - 7, whole),
         (b"3\n2097152\n0\n0\nnew 4,0,1048576,0,1048576\n", whole + 3, whole),
         (b"3\n2\n0\n0\nzero 2,1048575,1048576\nnew 2,1048575,1048576\n", 0, whole),
-        (b"3\n0\n0\n0\nzero 2,1048576,1048576\n", 0, whole),
         (b"3\n0\n0\n0\n", 0, whole + BLOCK),
     ] {
         let mut ends = Vec::new();
@@ -169,7 +168,7 @@ fn longest_line(other: &dyn Implementation, fast: bool) -> Result<(), String> {
     let length = if fast { MOST_LIST } else { 400_000 };
     // Behind header, word and count, before the LF: pairs of four bytes, the first with a longer end for what they leave.
     let pairs = (length - 15 - (length / 2).to_string().len()) / 4;
-    let line = |count: usize, more: usize| format!("3\n0\n0\n0\nerase {count},1,1{}{}", "0".repeat(more), ",1,1".repeat(pairs - 1));
+    let line = |count: usize, more: usize| format!("3\n0\n0\n0\nerase {count},1,2{}{}", "0".repeat(more), ",1,2".repeat(pairs - 1));
     let list = |count: usize| format!("{}\n", line(count, length - 1 - line(2 * pairs, 0).len())).into_bytes();
     let good = list(2 * pairs);
     let changed = |at: usize, byte: u8| {
@@ -183,6 +182,7 @@ fn longest_line(other: &dyn Implementation, fast: bool) -> Result<(), String> {
         ("without its LF", good[..length - 1].to_vec(), Some(length - 1)),
         ("with a byte more", changed(length - 1, b'0'), Some(length)),
         ("with a last end that is too low", changed(length - 2, b'0'), Some(length - 2)),
+        ("with a last range that is empty", changed(length - 2, b'1'), Some(length - 1)),
         ("with two numbers too few", list(2 * pairs + 2), Some(length - 1)),
         ("with two numbers too many", list(2 * pairs - 2), Some(length - 5)),
         ("with another byte in its midst", changed(length / 2, b'\r'), Some(length / 2)),
@@ -268,13 +268,16 @@ fn most_stashes(other: &dyn Implementation) -> Result<(), String> {
     if state.count != MOST_STASHES || state.sizes.iter().any(|blocks| *blocks != n) {
         return Err(format!("the most stashes: {} held", state.count));
     }
-    // One more, though of no blocks.
-    let more = format!("{list}stash {} 2,0,0\n", hex(&digest(b"")));
+    // One more, though there is room for its block.
+    let shorter = format!("{list}free {}\nstash {} 2,0,{}\n", names[1], hex(&digest(b"shorter")), n - 1);
+    let more = format!("{shorter}stash {} 2,0,1\n", hex(&digest(b"more")));
     let rooms = Rooms { image: image.len(), stash: area, work: area, ..Rooms::default() };
-    for on in [&Plain, other] {
-        let refusal = on.open(more.as_bytes(), rooms).refusal;
-        if (refusal.number, refusal.line) != (14, MOST_STASHES + 8) {
-            return Err(format!("a stash more than the most: {refusal:?}"));
+    for (list, want) in [(shorter, (0, 0)), (more, (14, MOST_STASHES + 10))] {
+        for on in [&Plain, other] {
+            let refusal = on.open(list.as_bytes(), rooms).refusal;
+            if (refusal.number, refusal.line) != want {
+                return Err(format!("a stash more than the most: {refusal:?}, not {want:?}"));
+            }
         }
     }
     println!("256 stashes of 128 blocks each, and a move of 32,768 blocks of half of them and of the image; {:.2} s", start.elapsed().as_secs_f64());

@@ -159,7 +159,8 @@ fn other_rooms(rng: &mut Rng, lent: &mut Lent) {
 
 /// Alters the state, the list, the patch data or an area's length between two calls.
 fn alter(rng: &mut Rng, world: &World, lent: &mut Lent, state: &mut State) {
-    match rng.below(17) {
+    let into_new = state.into != 0 && rng.one_in(4);
+    match if into_new { 14 } else { rng.below(19) } {
         0..=6 => {
             for _ in 0..rng.pick(&[1, 1, 2, 3]) {
                 disturb(rng, state, &lent.list);
@@ -217,6 +218,15 @@ fn alter(rng: &mut Rng, world: &World, lent: &mut Lent, state: &mut State) {
                 lent.patch[k] ^= 1 << rng.below(8);
             }
         }
+        14 | 15 => {
+            // An empty range in the `new` that the run is in, or else in a line that is still to come.
+            let mut emptied = world.clone();
+            let here = state.line.saturating_sub(5);
+            let end = if state.into != 0 { here + 1 } else { world.commands.len() };
+            emptied.empty_range(rng, here..end);
+            lent.list = emptied.list();
+            state.lengths.list = lent.list.len();
+        }
         _ => {
             // Another header, mostly with all else in its place.
             let before = lent.list.len();
@@ -253,8 +263,9 @@ fn any_sizes(rng: &mut Rng) -> Sizes {
     match rng.below(400) {
         0 => Sizes::small(rng.between(20, 300), rng.between(8, 80), rng.between(20, 150)),
         1..=3 => Sizes::small(rng.between(8, 40), rng.between(40, 130), rng.between(60, 200)),
-        4..=20 => Sizes::small(0, rng.below(3), rng.below(6)),
-        _ => Sizes::small(rng.between(1, 12), rng.between(0, 6), rng.between(0, 10)),
+        // No command has a block then.
+        4..=8 => Sizes::small(0, rng.below(3), rng.below(6)),
+        _ => Sizes::small(rng.between(1, 12), rng.between(0, 8), rng.between(0, 10)),
     }
 }
 
@@ -274,7 +285,8 @@ fn any_list(rng: &mut Rng, world: &World, stashes: usize) -> (Vec<u8>, Vec<u8>) 
         return (world.list(), world.patch);
     }
     match kind {
-        0..=34 | 65..=82 => {}
+        0..=28 | 65..=82 => {}
+        29..=34 => world.empty_range(rng, 0..world.commands.len()),
         35..=64 => (0..rng.pick(&[1, 1, 1, 2, 3])).for_each(|_| world.spoil(rng)),
         83..=85 => world.spoil(rng),
         _ => world.wrong_hash(rng),

@@ -1,6 +1,6 @@
 //! One seeded list with an ill-formed line: opened by the plain implementation and by others, and number, line and byte compared.
 
-use super::{Named, Series};
+use super::{reading, Named, Series};
 use crate::coverage::LineCoverage;
 use crate::generate::{ill_list, Rng};
 use crate::guard::Guarded;
@@ -23,7 +23,9 @@ impl<'a> LineChecker<'a> {
     }
 
     fn open(&mut self, list: &[u8], behind: bool) -> Result<(), String> {
-        let ours = Plain.open(list, ROOMS).refusal;
+        let state = Plain.open(list, ROOMS);
+        reading::turned(list, ROOMS, &state)?;
+        let ours = state.refusal;
         self.coverage.open(list, &ours);
         for (name, other) in self.others {
             self.list.set(list, behind);

@@ -3,6 +3,7 @@
 mod case;
 mod lines;
 mod odd;
+mod reading;
 mod sparse;
 
 use crate::coverage::Coverage;
@@ -165,6 +166,9 @@ impl<'a> Checker<'a> {
         });
         if ours != theirs {
             return Err(format!("open differs: plain {:?}, other {:?}", ours.refusal, theirs.refusal));
+        }
+        if let Some(number) = reading::turned(list, rooms, &ours)? {
+            self.coverage.given_before[number] += 1;
         }
         Ok(ours)
     }

@@ -113,18 +113,18 @@ impl Checker<'_> {
 
     /// A list of the greatest length, and one byte more.
     pub(super) fn longest(&mut self, rng: &mut Rng) -> Result<(), String> {
-        // Lines of 11 and 12 bytes fill any length.
+        // Lines of 12 and 13 bytes fill any length.
         let mut list = b"3\n0\n0\n0\n".to_vec();
         let body = MOST_LIST - list.len();
-        let longer = body % 11;
-        let x = rng.between(0, 4);
-        for _ in 0..(body - 12 * longer) / 11 {
-            list.extend_from_slice(format!("zero 2,{x},{x}\n").as_bytes());
+        let longer = body % 12;
+        let x = rng.below(9);
+        for _ in 0..(body - 13 * longer) / 12 {
+            list.extend_from_slice(format!("erase 2,{x},{}\n", x + 1).as_bytes());
         }
         for _ in 0..longer {
-            list.extend_from_slice(b"erase 2,0,1\n");
+            list.extend_from_slice(b"erase 2,9,10\n");
         }
-        let image = self.blocks.lay(&[1, 2, 3, 4]);
+        let image = self.blocks.lay(&[1, 2, 3, 4, 5, 6, 7, 8, 9, 10]);
         let mut lent = Lent { list, image, stash: Vec::new(), work: Vec::new(), result: Vec::new(), patch: Vec::new() };
         if rng.percent(30) {
             lent.list.push(b'\n');

@@ -7,7 +7,7 @@ use reference::{plain, Answer, Outcome, Refusal, Rooms, State};
 const MOST: u64 = 4_294_967_295;
 
 /// Of one refusal with 3 or 6 there may be several.
-pub const FORMS: [&str; 63] = [
+pub const FORMS: [&str; 76] = [
     "an empty line",
     "a first byte of no word",
     "a word like imgdiff",
@@ -39,6 +39,7 @@ pub const FORMS: [&str; 63] = [
     "a count too large",
     "a start with a leading zero",
     "a start too large",
+    "a start of 4294967295",
     "an end with a leading zero",
     "an end too large",
     "a low end that could grow",
@@ -48,6 +49,18 @@ pub const FORMS: [&str; 63] = [
     "a low end at its tenth digit",
     "a low end at a 0",
     "a low end in a later pair",
+    "an empty range from 0",
+    "an empty range from a start that can grow",
+    "an empty range from 429496730",
+    "an empty range from 4294967294",
+    "an empty range from 4294967295",
+    "an empty range in R",
+    "an empty range in S",
+    "an empty range in the first L",
+    "an empty range in the L of a P",
+    "an empty range in the first pair of several",
+    "an empty range in a middle pair",
+    "an empty range in the last pair of several",
     "a set too short",
     "a set too long",
     "over a million numbers announced",
@@ -98,6 +111,11 @@ impl Forms {
     pub(super) fn each(&self) -> impl Iterator<Item = (&'static str, u64)> + '_ {
         FORMS.into_iter().zip(self.0)
     }
+
+    /// Those of empty ranges.
+    pub(super) fn empty_ranges(&self) -> impl Iterator<Item = (&'static str, u64)> + '_ {
+        self.each().filter(|(name, _)| name.starts_with("an empty range "))
+    }
 }
 
 /// What a call did with a byte.
@@ -121,10 +139,13 @@ pub(super) fn called(before: &State, answer: &Answer) -> [bool; BYTES.len()] {
 const WORDS: [&[u8]; 7] = [b"zero", b"erase", b"new", b"stash", b"free", b"move", b"bsdiff"];
 
 /// What a field must be.
+#[derive(Clone, Copy)]
 enum Field {
     Hash,
     Number,
-    Set,
+    Target,
+    /// The S of a `stash`.
+    Stashed,
     /// S, or a dash.
     Source,
     /// The first L of form three.
@@ -219,19 +240,20 @@ impl Fault<'_> {
             _ if last.is_empty() => self.short("a space at the end where a field may follow"),
             _ => {}
         }
-        match field(&fields) {
+        let field = field(&fields);
+        match field {
             Field::Hash => self.hash(last, false),
             Field::Number => self.number(last),
             Field::Source if last == b"-" => self.short("a dash without P"),
-            Field::Set | Field::Source => self.set(last, false),
+            Field::Target | Field::Stashed | Field::Source => self.set(last, field),
             Field::Places => {
-                self.set(last, false);
-                if is_good(&[self.before, b" 0123456789012345678901234567890123456789:2,0,0\n"].concat()) {
+                self.set(last, field);
+                if is_good(&[self.before, b" 0123456789012345678901234567890123456789:2,0,1\n"].concat()) {
                     self.short("S and L without P");
                 }
             }
             Field::Part => match last.iter().position(|c| *c == b':') {
-                Some(colon) => self.set(&last[colon + 1..], true),
+                Some(colon) => self.set(&last[colon + 1..], field),
                 None => self.hash(last, true),
             },
         }
@@ -283,16 +305,17 @@ impl Fault<'_> {
         }
     }
 
-    fn set(&mut self, set: &[u8], in_part: bool) {
+    fn set(&mut self, set: &[u8], field: Field) {
         let numbers: Vec<&[u8]> = set.split(|c| *c == b',').collect();
         let (there, digits) = (numbers.len() - 1, numbers[numbers.len() - 1]);
+        let due = value(numbers[0]);
         let found = self.found.len();
-        match there {
-            0 => self.count(digits),
+        match (there, self.empty(set, there)) {
+            (0, _) => self.count(digits),
+            (_, Some(start)) => self.empty_range(start, there.div_ceil(2) as u64, due / 2, field),
             _ if there % 2 == 1 => self.start(digits),
             _ => self.end(value(numbers[there - 1]), digits, there),
         }
-        let due = value(numbers[0]);
         if self.found.len() == found && there > 0 {
             // The number is good, and what follows it is not.
             match self.here {
@@ -304,7 +327,42 @@ impl Fault<'_> {
         if there > 0 && due > 1_000_000 {
             self.is("over a million numbers announced");
         }
-        self.is(if in_part { "a fault in the L of a P" } else { "a fault in R, S or the first L" });
+        self.is(if let Field::Part = field { "a fault in the L of a P" } else { "a fault in R, S or the first L" });
+    }
+
+    /// The number that the pair with the fault, after so many numbers, has for its start and for its end.
+    fn empty(&self, set: &[u8], there: usize) -> Option<u64> {
+        let first = there.checked_sub(1)? / 2 * 2 + 1;
+        let rest = [self.here?].into_iter().chain(self.after.iter().copied()).take_while(|c| !matches!(c, b' ' | b'\n'));
+        let field: Vec<u8> = set.iter().copied().chain(rest).collect();
+        let mut pair = field.split(|c| *c == b',').skip(first);
+        let (start, end) = (pair.next()?, pair.next()?);
+        let number: u32 = std::str::from_utf8(start).ok()?.parse().ok()?;
+        (start == end && number.to_string().as_bytes() == start).then_some(number as u64)
+    }
+
+    /// An empty range in one pair of so many.
+    fn empty_range(&mut self, start: u64, pair: u64, pairs: u64, field: Field) {
+        match start {
+            0 => self.is("an empty range from 0"),
+            1..=429_496_729 => self.is("an empty range from a start that can grow"),
+            429_496_730 => self.is("an empty range from 429496730"),
+            4_294_967_294 => self.is("an empty range from 4294967294"),
+            MOST => self.is("an empty range from 4294967295"),
+            _ => {}
+        }
+        self.is(match field {
+            Field::Part => "an empty range in the L of a P",
+            Field::Places => "an empty range in the first L",
+            Field::Target => "an empty range in R",
+            _ => "an empty range in S",
+        });
+        match pair {
+            _ if pairs == 1 => {}
+            1 => self.is("an empty range in the first pair of several"),
+            _ if pair == pairs => self.is("an empty range in the last pair of several"),
+            _ => self.is("an empty range in a middle pair"),
+        }
     }
 
     fn count(&mut self, digits: &[u8]) {
@@ -326,23 +384,24 @@ impl Fault<'_> {
         match digits {
             b"" => self.is("a number without digits"),
             b"0" if self.digit() => self.is("a start with a leading zero"),
+            _ if self.digit() && self.with(digits) == MOST => self.is("a start of 4294967295"),
             _ if self.digit() => self.large("a start too large", digits.len()),
             _ => {}
         }
     }
 
-    /// It must reach `least`, and is the set's k-th number.
-    fn end(&mut self, least: u64, digits: &[u8], k: usize) {
+    /// It must pass `start`, and is the set's k-th number.
+    fn end(&mut self, start: u64, digits: &[u8], k: usize) {
         let low = match (digits, self.here) {
-            (b"0", Some(b'0'..=b'9')) => return self.is("an end with a leading zero"),
             (_, Some(b'0'..=b'9')) if self.with(digits) > MOST => return self.large("an end too large", digits.len()),
+            (b"", Some(b'0')) if self.after.first().is_some_and(u8::is_ascii_digit) => return self.is("an end with a leading zero"),
             (b"", Some(b'0')) => "a low end at a 0",
             (b"", Some(b'1'..=b'9')) => "a low end at its first digit",
             (b"", _) => return self.is("a number without digits"),
             (_, Some(b'0'..=b'9')) if digits.len() == 9 => "a low end at its tenth digit",
             (_, Some(b'0'..=b'9')) => "a low end at a digit between",
-            _ if value(digits) < least && least >= 1_000_000_000 => "a low end that could grow, to ten digits alone",
-            _ if value(digits) < least => "a low end that could grow",
+            _ if value(digits) <= start && start >= 1_000_000_000 => "a low end that could grow, to ten digits alone",
+            _ if value(digits) <= start => "a low end that could grow",
             _ => return,
         };
         self.is(low);
@@ -356,14 +415,14 @@ impl Fault<'_> {
 fn field(fields: &[&[u8]]) -> Field {
     let k = fields.len() - 1;
     match (fields[0], k) {
-        (b"zero" | b"erase" | b"new", _) => Field::Set,
+        (b"zero" | b"erase" | b"new", _) => Field::Target,
         (b"free", _) | (b"stash", 1) => Field::Hash,
-        (b"stash", _) => Field::Set,
+        (b"stash", _) => Field::Stashed,
         (b"bsdiff", 1 | 2) => Field::Number,
         (b"bsdiff", 3) => Field::Hash,
         (word, _) => match if word == b"bsdiff" { k - 3 } else { k } {
             1 => Field::Hash,
-            2 => Field::Set,
+            2 => Field::Target,
             3 => Field::Number,
             4 => Field::Source,
             5 if fields[k - 1] != b"-" => Field::Places,

@@ -4,7 +4,7 @@ use super::{blocks, ranges};
 use reference::BLOCK;
 
 /// What is malformed first.
-pub const FAULTS: [&str; 13] = [
+pub const FAULTS: [&str; 14] = [
     "a mark",
     "one byte left over",
     "a head cut short",
@@ -18,11 +18,11 @@ pub const FAULTS: [&str; 13] = [
     "a position too low",
     "a result that is too short",
     "a result that is too long",
+    "no record",
 ];
 
 /// What a patch that ran has.
-pub const PATCHES: [&str; 14] = [
-    "no record",
+pub const PATCHES: [&str; 13] = [
     "several records",
     "a record of nothing",
     "add bytes",
@@ -84,7 +84,6 @@ impl Line<'_> {
         // The position after it counts too.
         let at = |position: i128| any(&|r| r.position + r.add == position || r.position + r.add + r.seek == position);
         [
-            all.is_empty(),
             all.len() > 1,
             any(&|r| r.add + r.extra == 0),
             any(&|r| r.add > 0),
@@ -92,7 +91,7 @@ impl Line<'_> {
             any(&|r| r.add > 0 && r.extra > 0),
             any(&|r| r.add > 0 && r.position + r.add <= 0),
             any(&|r| over(r, 0)),
-            source > 0 && any(&|r| over(r, source)),
+            any(&|r| over(r, source)),
             any(&|r| r.add > 0 && r.position >= source),
             at(FARTHEST),
             at(-FARTHEST),
@@ -141,6 +140,8 @@ fn records(mut rest: &[u8], target: usize) -> Result<Vec<Record>, usize> {
         rest = &rest[26 + (add + extra) as usize..];
     }
     match made.cmp(&(target as i128)) {
+        // A target has blocks.
+        _ if all.is_empty() => Err(13),
         std::cmp::Ordering::Less => Err(11),
         std::cmp::Ordering::Equal => Ok(all),
         std::cmp::Ordering::Greater => Err(12),

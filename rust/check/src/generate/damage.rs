@@ -73,7 +73,7 @@ fn border_number(rng: &mut Rng, list: &mut Vec<u8>) {
     list.splice(start..end, new.into_bytes());
 }
 
-const ILL_SETS: [&str; 16] = [
+const ILL_SETS: [&str; 19] = [
     "0",
     "1,0",
     "3,0,1,2",
@@ -86,10 +86,13 @@ const ILL_SETS: [&str; 16] = [
     "02,0,1",
     "2,0,1,",
     "",
-    "2,0,0,0,0",
-    "4294967294,0,0",
-    "2,0,-0",
-    "1,0,0",
+    "2,0,1,0,1",
+    "4294967294,0,1",
+    "2,0,-1",
+    "1,0,1",
+    "2,0,0",
+    "2,3,3",
+    "4,0,1,8,8",
 ];
 
 /// Puts an ill-formed range set in the place of one that stands there.
@@ -108,10 +111,10 @@ const LAST_LINES: [&[u8]; 11] = [
     b"imgdiff",
     b"bsdiff ",
     b"imgdiff 0 1",
-    b"bsdiff 0 0 da39a3ee5e6b4b0d3255bfef95601890afd80709 da39a3ee5e6b4b0d3255bfef95601890afd80709 2,0,0 0 2,0,0",
+    b"bsdiff 0 0 da39a3ee5e6b4b0d3255bfef95601890afd80709 da39a3ee5e6b4b0d3255bfef95601890afd80709 2,0,1 1 2,0,1",
     b"bsdif",
     b"imgdiffs",
-    b"zero 2,0,0",
+    b"zero 2,0,1",
     b"free da39a3ee5e6b4b0d3255bfef95601890afd80709",
     b"new 2,0",
     b"\n",

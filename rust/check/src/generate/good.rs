@@ -28,11 +28,14 @@ impl Follow {
         blocks_of(set).map(|block| self.image[block]).collect()
     }
 
-    /// How many blocks a command gets, within its room.
-    fn some(&self, rng: &mut Rng, room: usize) -> usize {
+    /// How many blocks a command gets, within its room; none where there is no room for one, or no block in the image.
+    fn some(&self, rng: &mut Rng, room: usize) -> Option<usize> {
+        if room == 0 || self.image.is_empty() {
+            return None;
+        }
         let Sizes { most, often, .. } = self.sizes;
         let most = if often == 1 || rng.one_in(often) { most } else { most / 64 };
-        rng.between(0, room.min(most))
+        Some(rng.between(1, room.min(most)))
     }
 
     /// Some of the held stashes, now and then many, which together fit the work area; one may come twice.
@@ -46,7 +49,7 @@ impl Follow {
             }
             let k = rng.below(self.held.len());
             let size = self.held[k].1.len();
-            if blocks + size <= work && (!self.image.is_empty() || size == 0) {
+            if blocks + size <= work {
                 chosen.push(k);
                 blocks += size;
             }
@@ -97,12 +100,12 @@ impl World {
         let mut bytes = 40;
         let stash_weight = rng.pick(&[1, 4, 8]);
         for _ in 0..sizes.commands {
-            let command = match rng.below(10 + stash_weight) {
-                0 => Some(good_zero(rng, &mut follow)),
-                1 | 2 => Some(world.good_new(rng, letters, &mut follow)),
-                3 => good_free(rng, &mut follow),
-                4..=7 => Some(world.good_move(rng, blocks, &mut follow)),
-                8 | 9 => Some(world.good_bsdiff(rng, blocks, letters, &mut follow)),
+            let command = match rng.below(11 + stash_weight) {
+                0 => good_zero(rng, &mut follow),
+                1 | 2 => world.good_new(rng, letters, &mut follow),
+                3 | 4 => good_free(rng, &mut follow),
+                5..=8 => world.good_move(rng, blocks, &mut follow),
+                9 | 10 => world.good_bsdiff(rng, blocks, letters, &mut follow),
                 _ => world.good_stash(rng, blocks, &mut follow),
             };
             if let Some(command) = command {
@@ -126,21 +129,18 @@ impl World {
         world
     }
 
-    fn good_new(&mut self, rng: &mut Rng, letters: usize, follow: &mut Follow) -> Command {
-        let bound = follow.image.len();
-        let k = if bound == 0 || rng.one_in(10) { 0 } else { 1 + follow.some(rng, 2.max(follow.sizes.most)) / 2 };
-        let set = any_set(rng, k, bound);
+    fn good_new(&mut self, rng: &mut Rng, letters: usize, follow: &mut Follow) -> Option<Command> {
+        let k = 1 + follow.some(rng, usize::MAX)? / 2;
+        let set = any_set(rng, k, follow.image.len());
         let from: Vec<u8> = (0..k).map(|_| rng.between(0, letters) as u8).collect();
         follow.write(&set, &from);
         self.data.extend_from_slice(&from);
-        Command::New(set)
+        Some(Command::New(set))
     }
 
     fn good_stash(&self, rng: &mut Rng, blocks: &mut Blocks, follow: &mut Follow) -> Option<Command> {
-        let bound = follow.image.len();
-        let room = self.work.min(self.stash - follow.blocks());
-        let k = if bound == 0 || rng.one_in(12) { 0 } else { follow.some(rng, room) };
-        let source = any_set(rng, k, bound);
+        let k = follow.some(rng, self.work.min(self.stash - follow.blocks()))?;
+        let source = any_set(rng, k, follow.image.len());
         let ids = follow.read(&source);
         let hash = blocks.digest(&ids);
         if follow.held.len() == MOST_STASHES || follow.held.iter().any(|stash| stash.0 == hash) {
@@ -150,23 +150,22 @@ impl World {
         Some(Command::Stash { hash, source })
     }
 
-    fn good_move(&self, rng: &mut Rng, blocks: &mut Blocks, follow: &mut Follow) -> Command {
-        let (whole, source) = self.good_source(rng, follow);
+    fn good_move(&self, rng: &mut Rng, blocks: &mut Blocks, follow: &mut Follow) -> Option<Command> {
+        let (whole, source) = self.good_source(rng, follow)?;
         let target = any_set(rng, whole.len(), follow.image.len());
         let hash = blocks.digest(&whole);
         follow.write(&target, &whole);
-        Command::Move { hash, target, n: whole.len() as u32, source }
+        Some(Command::Move { hash, target, n: whole.len() as u32, source })
     }
 
     /// A target of any size, and a patch that makes it of the source; a move where there is patch data enough.
-    fn good_bsdiff(&mut self, rng: &mut Rng, blocks: &mut Blocks, letters: usize, follow: &mut Follow) -> Command {
+    fn good_bsdiff(&mut self, rng: &mut Rng, blocks: &mut Blocks, letters: usize, follow: &mut Follow) -> Option<Command> {
         if self.patch.len() > follow.sizes.patch {
             return self.good_move(rng, blocks, follow);
         }
-        let (whole, source) = self.good_source(rng, follow);
-        let bound = follow.image.len();
-        let k = if bound == 0 { 0 } else { follow.some(rng, self.result) };
-        let target = any_set(rng, k, bound);
+        let (whole, source) = self.good_source(rng, follow)?;
+        let k = follow.some(rng, self.result)?;
+        let target = any_set(rng, k, follow.image.len());
         let ids: Vec<u8> = (0..k).map(|j| if rng.percent(30) { *whole.get(j).unwrap_or(&7) } else { rng.between(0, letters) as u8 }).collect();
         let records = if blocks.is_made_up() { Vec::new() } else { differ(rng, &blocks.lay(&whole), &blocks.lay(&ids)) };
         // Sometimes bytes lie between two patches that belong to none.
@@ -177,22 +176,22 @@ impl World {
         records.iter().for_each(|record| record.write(&mut self.patch));
         let bytes = self.patch.len() as u32 - from;
         follow.write(&target, &ids);
-        Command::Bsdiff { from, bytes, hash: blocks.digest(&whole), result: blocks.digest(&ids), target, n: whole.len() as u32, source }
+        Some(Command::Bsdiff { from, bytes, hash: blocks.digest(&whole), result: blocks.digest(&ids), target, n: whole.len() as u32, source })
     }
 
     /// A source in one of the three forms, and its blocks put together.
-    fn good_source(&self, rng: &mut Rng, follow: &Follow) -> (Vec<u8>, Source) {
-        let bound = follow.image.len();
+    fn good_source(&self, rng: &mut Rng, follow: &Follow) -> Option<(Vec<u8>, Source)> {
         let named = if rng.percent(65) { follow.some_held(rng, self.work) } else { Vec::new() };
         let from_stash: usize = named.iter().map(|k| follow.held[*k].1.len()).sum();
-        let form = if named.is_empty() { 1 } else { rng.between(2, 3) };
-        let from_image = match form {
-            2 => 0,
-            _ if bound == 0 || rng.one_in(12) => 0,
-            _ => follow.some(rng, self.work - from_stash),
+        let room = self.work - from_stash;
+        let form = match named.is_empty() {
+            true => 1,
+            false if room == 0 => 2,
+            false => rng.pick(&[2, 3, 3]),
         };
+        let from_image = if form == 2 { 0 } else { follow.some(rng, room)? };
         let n = from_image + from_stash;
-        let set = any_set(rng, from_image, bound);
+        let set = any_set(rng, from_image, follow.image.len());
         let mut places = any_order(rng, n);
         if form == 1 {
             places.sort();
@@ -217,20 +216,16 @@ impl World {
             2 => Source::Stashes(parts),
             _ => Source::Both(set, first, parts),
         };
-        (whole, source)
+        Some((whole, source))
     }
 }
 
-fn good_zero(rng: &mut Rng, follow: &mut Follow) -> Command {
+fn good_zero(rng: &mut Rng, follow: &mut Follow) -> Option<Command> {
     let bound = follow.image.len();
-    let k = if bound == 0 { 0 } else { follow.some(rng, bound) };
+    let k = follow.some(rng, bound)?;
     let set = any_set(rng, k, bound);
     follow.write(&set, &vec![0; k]);
-    if rng.percent(50) {
-        Command::Zero(set)
-    } else {
-        Command::Erase(set)
-    }
+    Some(if rng.percent(50) { Command::Zero(set) } else { Command::Erase(set) })
 }
 
 fn good_free(rng: &mut Rng, follow: &mut Follow) -> Option<Command> {

@@ -32,7 +32,7 @@ struct Parts(Vec<Part>);
 const ODD: &[u8] = b"\r\r\t\t\0\0\xff\x80\xc3  ,,::--+.;/`@GgAFXxz_\n\"01259";
 
 /// Behind a whole line.
-const TAILS: [&[u8]; 13] = [b" ", b" ", b"\r", b"\t", b",", b" 0", b"  ", b":2,0,0", b" -", b"\0", b",1,2", b"0", b" 2,0,0"];
+const TAILS: [&[u8]; 13] = [b" ", b" ", b"\r", b"\t", b",", b" 0", b"  ", b":2,0,1", b" -", b"\0", b",1,2", b"0", b" 2,0,1"];
 
 /// In a header line's place.
 const ILL_HEADERS: [&[u8]; 14] = [b"03", b"00", b"3 ", b"3\r", b" 3", b"\t3", b"+3", b"-3", b"x", b"3x", b"\0", b"\xff", b"3,", b"0x3"];
@@ -72,10 +72,11 @@ impl Parts {
         self.push(Kind::Count, (2 * pairs).to_string());
         for _ in 0..pairs {
             let (a, b) = (any_number(rng), any_number(rng));
+            let start = a.min(b).min(MOST - 1);
             self.push(Kind::Comma, ",");
-            self.push(Kind::Start, a.min(b).to_string());
+            self.push(Kind::Start, start.to_string());
             self.push(Kind::Comma, ",");
-            self.push(Kind::End, a.max(b).to_string());
+            self.push(Kind::End, a.max(b).max(start + 1).to_string());
         }
     }
 
@@ -152,11 +153,12 @@ impl Parts {
 /// A line that is ill formed, mostly, and mostly with its LF.
 pub fn ill_line(rng: &mut Rng) -> Vec<u8> {
     let mut line = Parts::good(rng);
-    let what = rng.below(17);
+    let what = rng.below(19);
     match what {
         0..=10 => spoil_some(rng, &mut line),
         11 | 12 => cut_fields(rng, &mut line),
         13 => other_count(rng, &mut line),
+        17 | 18 => empty_range(rng, &mut line),
         _ => {}
     }
     let mut text = line.text();
@@ -206,6 +208,8 @@ fn spoil_some(rng: &mut Rng, line: &mut Parts) {
     match line.0[k].kind {
         Kind::Word => line.put(k, ill_word(rng, &text)),
         Kind::Hash => line.put(k, ill_hash(rng, text)),
+        // No end can follow the greatest number.
+        Kind::Start if rng.one_in(4) => line.put(k, MOST.to_string()),
         Kind::Number | Kind::Start => line.put(k, ill_number(rng, &text)),
         Kind::Count => line.put(k, ill_count(rng, &text)),
         Kind::End => low_end(rng, line, k),
@@ -325,7 +329,7 @@ fn low_end(rng: &mut Rng, line: &mut Parts, k: usize) {
         let any = any_number(rng).max(1);
         let ten = rng.between(1_000_000_000, MOST as usize) as u64;
         let round = rng.pick(&[4_200_000_000, 500_000_000, 4_000_000_000, 1_000_000_000, 999_999_999]);
-        start = rng.pick(&[near, near, near, nine, MOST, MOST - 5, round, round, ten, ten, ten, 5, 19, 0, any]);
+        start = rng.pick(&[near, near, near, nine, MOST - 1, MOST - 5, round, round, ten, ten, ten, 5, 19, 0, any]);
         line.put(k - 2, start.to_string());
     }
     let digits = start.to_string();
@@ -353,6 +357,15 @@ fn low_end(rng: &mut Rng, line: &mut Parts, k: usize) {
         }
     };
     line.put(k, end);
+}
+
+/// An end that is its start: one that a digit more could lift, or none.
+fn empty_range(rng: &mut Rng, line: &mut Parts) {
+    let Some(k) = line.some(rng, Kind::End) else { return };
+    let any = any_number(rng);
+    let start = rng.pick(&[0, 0, 8, any, any, 429_496_729, 429_496_730, 429_496_730, 999_999_999, 1_000_000_000, MOST - 1, MOST - 1, MOST, MOST]);
+    line.put(k - 2, start.to_string());
+    line.put(k, start.to_string());
 }
 
 /// Without the rest of a line from the start of a field on, or one field less or twice; or all P's are gone.
@@ -391,7 +404,7 @@ fn other_count(rng: &mut Rng, line: &mut Parts) {
             line.0.drain(after - fewer..after);
         }
         _ => {
-            let more = rng.pick(&[",", ",0", ",0,0", ",1,0", ",4294967296"]);
+            let more = rng.pick(&[",", ",0", ",0,1", ",1,0", ",4294967296"]);
             line.0[after - 1].text.extend_from_slice(more.as_bytes());
         }
     }
@@ -443,7 +456,7 @@ pub fn ill_list(rng: &mut Rng) -> Vec<u8> {
         "erase 4,0,1,7,8\n",
         "new 2,3,5\n",
         "new 4,2,3,6,7\n",
-        "zero 6,0,0,1,2,8,8\n",
+        "zero 6,0,1,1,2,7,8\n",
         "move 0123456789abcdef0123456789abcdef01234567 2,1,4 3 2,0,3\n",
         "stash ffffffffffffffffffffffffffffffffffffffff 2,0,1\nfree ffffffffffffffffffffffffffffffffffffffff\n",
         "bsdiff 0 4 0123456789abcdef0123456789abcdef01234567 76543210fedcba9876543210fedcba9876543210 2,1,2 3 2,0,3\n",

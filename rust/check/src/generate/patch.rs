@@ -57,9 +57,6 @@ fn difference(source: &[u8], position: i64, byte: u8) -> u8 {
 
 /// Some patch that makes the target of the source: stretches of any lengths, from positions within the source and outside it.
 pub fn differ(rng: &mut Rng, source: &[u8], target: &[u8]) -> Vec<Record> {
-    if target.is_empty() && rng.percent(40) {
-        return Vec::new();
-    }
     let count = rng.pick(&[1, 1, 2, 2, 3, 5, 12]);
     let mut cuts: Vec<usize> = (1..count).map(|_| any_cut(rng, target.len())).collect();
     cuts.push(target.len());

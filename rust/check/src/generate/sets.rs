@@ -1,7 +1,6 @@
 //! Range sets.
 
 use super::Rng;
-use reference::MOST_AREA;
 
 /// The pairs of a range set, as written.
 pub type Set = Vec<(u32, u32)>;
@@ -11,16 +10,9 @@ pub(super) fn size(set: &Set) -> u64 {
     set.iter().map(|(start, end)| end.saturating_sub(*start) as u64).sum()
 }
 
-/// A set of k blocks, in any order and with repeats, within so many blocks; sometimes with empty ranges.
+/// A set of k blocks, in any order and with repeats, within so many blocks. One of none has no range, and is for no line.
 pub(super) fn any_set(rng: &mut Rng, mut k: usize, bound: usize) -> Set {
     let mut set = Set::new();
-    let empties = if rng.one_in(6) { 2 } else { 0 };
-    for _ in 0..empties {
-        if rng.percent(60) {
-            let x = rng.between(0, bound) as u32;
-            set.push((x, x));
-        }
-    }
     let whole = rng.percent(50);
     let ragged = k > 16 && rng.percent(50);
     // Long sets have longer ranges, so that a line does not fill the list.
@@ -32,17 +24,10 @@ pub(super) fn any_set(rng: &mut Rng, mut k: usize, bound: usize) -> Set {
         set.push((start as u32, (start + length) as u32));
         k -= length;
     }
-    if set.is_empty() {
-        let x = rng.between(0, bound) as u32;
-        set.push((x, x));
-    }
-    if empties > 0 {
-        rng.shuffle(&mut set);
-    }
     set
 }
 
-/// These places as a set, in this order; sometimes with empty ranges, which may be anywhere.
+/// These places as a set, in this order.
 pub(super) fn place_set(rng: &mut Rng, places: &[usize]) -> Set {
     let mut set = Set::new();
     for place in places {
@@ -51,16 +36,34 @@ pub(super) fn place_set(rng: &mut Rng, places: &[usize]) -> Set {
             Some(last) if last.1 == p && rng.percent(85) => last.1 = p + 1,
             _ => set.push((p, p + 1)),
         }
-        if rng.one_in(30) {
-            let x = rng.pick(&[0, p, 4_096, MOST_AREA as u32, 4_294_967_295]);
-            set.push((x, x));
-        }
-    }
-    if set.is_empty() {
-        let x = rng.pick(&[0, 1, 7, 4_294_967_295]);
-        set.push((x, x));
     }
     set
+}
+
+/// Puts a range without blocks in a set: before the others, behind them, within one, or in its place.
+pub(super) fn put_empty(rng: &mut Rng, set: &mut Set, bound: u32) {
+    let k = rng.below(set.len());
+    let (start, end) = set[k];
+    let x = rng.pick(&[0, start, end, bound, bound + 1, 8, 429_496_730, 4_294_967_294, 4_294_967_295]);
+    match rng.below(4) {
+        0 => set.insert(0, (x, x)),
+        1 => set.push((x, x)),
+        2 if end > start.saturating_add(1) => {
+            set.splice(k..=k, [(start, start + 1), (x, x), (start + 1, end)]);
+        }
+        _ => set[k] = (x, x),
+    }
+}
+
+/// Takes a block from a set, where it has another.
+pub(super) fn one_block_less(set: &mut Set) -> bool {
+    match set.iter().position(|(start, end)| *end > start.saturating_add(1)) {
+        Some(k) => {
+            set[k].1 -= 1;
+            true
+        }
+        None => set.len() > 1 && set.pop().is_some(),
+    }
 }
 
 /// The blocks that a set names, in the written order.

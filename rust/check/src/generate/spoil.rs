@@ -1,9 +1,10 @@
 //! Lists spoiled so that a certain refusal applies.
 
 use super::command::{Command, Source};
-use super::sets::any_set;
+use super::sets::{any_set, one_block_less, put_empty};
 use super::{patch, Rng, World};
 use reference::{MOST_AREA, MOST_STASHES};
+use std::ops::Range;
 
 #[derive(Clone, Copy)]
 enum Fault {
@@ -12,6 +13,7 @@ enum Fault {
     MostStashes,
     MostBlocks,
     PastImage,
+    Empty,
     Length,
     Name,
     Size,
@@ -30,13 +32,15 @@ enum Fault {
 }
 
 /// Each as often as it is to be tried.
-const FAULTS: [Fault; 29] = [
+const FAULTS: [Fault; 32] = [
     Fault::Version,
     Fault::Total,
     Fault::MostStashes,
     Fault::MostBlocks,
     Fault::PastImage,
     Fault::PastImage,
+    Fault::Empty,
+    Fault::Empty,
     Fault::Length,
     Fault::Length,
     Fault::Name,
@@ -56,6 +60,7 @@ const FAULTS: [Fault; 29] = [
     Fault::Places,
     Fault::Places,
     Fault::Patch,
+    Fault::PatchPlace,
     Fault::PatchPlace,
     Fault::PatchPlace,
     Fault::Result,
@@ -78,9 +83,12 @@ fn moves_stashes(command: &Command) -> bool {
     matches!(command.source(), Some((Source::Stashes(_) | Source::Both(..), _)))
 }
 
-/// And there is a place to spread them over.
-fn spreads_stashes(command: &Command) -> bool {
-    moves_stashes(command) && matches!(command.source(), Some((_, 1..)))
+fn moves_both(command: &Command) -> bool {
+    matches!(command.source(), Some((Source::Both(..), _)))
+}
+
+fn has_sets(command: &Command) -> bool {
+    !matches!(command, Command::Free { .. } | Command::Raw(_))
 }
 
 fn names_stashes(command: &Command) -> bool {
@@ -101,7 +109,7 @@ impl World {
         if rng.one_in(6) {
             return self.spoil_move(rng);
         }
-        let fault = if self.commands.iter().any(spreads_stashes) && rng.one_in(4) { Fault::Places } else { rng.pick(&FAULTS) };
+        let fault = if self.commands.iter().any(moves_stashes) && rng.one_in(4) { Fault::Places } else { rng.pick(&FAULTS) };
         let count = self.commands.len();
         let at = rng.below(count);
         let [_, _, stashes, blocks] = self.header;
@@ -118,11 +126,12 @@ impl World {
                     rng.pick(&[blocks.saturating_sub(1), 0, area, area + 1, 4_097, MOST_AREA as u64, MOST_AREA as u64 + 1, 4_294_967_295]);
             }
             Fault::PastImage => self.past_image(rng, at),
+            Fault::Empty => self.empty_range(rng, 0..count),
             Fault::Length => self.other_length(rng, self.seek(at, has_source)),
             Fault::Name => self.other_name(rng, self.seek(at, names_stashes)),
             Fault::Size => self.other_size(rng, at),
             Fault::MoveSize => self.other_size(rng, self.seek(at, has_source)),
-            Fault::Places => self.other_places(rng, self.seek(at, spreads_stashes)),
+            Fault::Places => self.other_places(rng, self.seek(at, moves_stashes)),
             Fault::Again => {
                 if let Some(again) = self.commands.get(at).cloned() {
                     self.commands.insert(rng.between(at, count), again);
@@ -190,29 +199,46 @@ impl World {
         let over = rng.pick(&[1, 1, 2, 1000, u32::MAX - bound]);
         let to = bound.saturating_add(over);
         set[k] = match rng.below(3) {
-            0 => (to.saturating_sub(length), to),
-            1 => (to, to),
-            _ => (start.min(to), to),
+            0 => (to.saturating_sub(length.max(1)), to),
+            1 => (to - 1, to),
+            _ => (start.min(to - 1), to),
         };
+    }
+
+    /// Puts a range without blocks in a set of one of these commands.
+    pub fn empty_range(&mut self, rng: &mut Rng, commands: Range<usize>) {
+        let bound = self.image.len() as u32;
+        let of = |is: fn(&Command) -> bool| -> Vec<usize> { commands.clone().filter(|k| self.commands.get(*k).is_some_and(is)).collect() };
+        // Few have every kind of set.
+        let mut all = of(rng.pick(&[moves_both, moves_both, moves_stashes, has_sets]));
+        if all.is_empty() {
+            all = of(has_sets);
+        }
+        if all.is_empty() {
+            return;
+        }
+        let (mut sets, _) = self.commands[rng.pick(&all)].sets();
+        // The third is the first L, where there is one.
+        let which = if rng.percent(50) { rng.below(sets.len()) } else { 2.min(sets.len() - 1) };
+        put_empty(rng, sets[which], bound);
     }
 
     /// N.
     fn other_length(&mut self, rng: &mut Rng, at: usize) {
         let (work, bound) = (self.work as u32, self.image.len());
         let Some((target, n, source)) = self.commands.get_mut(at).and_then(Command::moved) else { return };
-        match rng.below(7) {
+        match rng.below(8) {
             0 => *n = n.saturating_add(1),
             1 => *n = n.saturating_sub(1),
             2 => *n = work + 1,
             3 => *n = u32::MAX,
-            4 => *n = 0,
+            4 | 5 => *n = 0,
             _ => {
                 // One more than the work area, all else fitting.
                 *n = work + 1;
-                let blocks = if bound == 0 { 0 } else { *n as usize };
-                *target = any_set(rng, blocks, bound);
+                *target = any_set(rng, *n as usize, bound);
                 if rng.percent(70) {
-                    *source = Source::Image(any_set(rng, blocks, bound));
+                    *source = Source::Image(any_set(rng, *n as usize, bound));
                 }
             }
         }
@@ -257,8 +283,8 @@ impl World {
         let k = rng.below(set.len());
         match rng.below(4) {
             0 => set[k].1 = set[k].1.saturating_add(1),
-            1 => set[k].1 = set[k].1.saturating_sub(1),
-            2 => set.push((0, rng.below(bound + 1) as u32)),
+            1 if one_block_less(set) => {}
+            1 | 2 => set.push((0, rng.between(1, bound) as u32)),
             _ if set.len() > 1 => {
                 set.remove(k);
             }
@@ -268,9 +294,9 @@ impl World {
 
     /// Places taken twice, or at N and above, mostly in the line that has the most of them.
     pub fn misplace(&mut self, rng: &mut Rng) {
-        let mut at = self.seek(rng.below(self.commands.len()), spreads_stashes);
+        let mut at = self.seek(rng.below(self.commands.len()), moves_stashes);
         if rng.percent(75) {
-            let spread = (0..self.commands.len()).filter(|k| spreads_stashes(&self.commands[*k]));
+            let spread = (0..self.commands.len()).filter(|k| moves_stashes(&self.commands[*k]));
             at = spread.max_by_key(|k| self.commands[*k].source().map(|(_, n)| n)).unwrap_or(at);
         }
         self.other_places(rng, at);
@@ -282,8 +308,7 @@ impl World {
         let at = if rng.percent(70) { first } else { rng.between(first, self.commands.len()) };
         self.header[2] = (first as u64).max(self.header[2]);
         self.header[3] = self.stash as u64;
-        let source = vec![(0, if self.stash > first { rng.below(2) as u32 } else { 0 })];
-        self.commands.insert(at, Command::Stash { hash: [0xcd; 20], source });
+        self.commands.insert(at, Command::Stash { hash: [0xcd; 20], source: vec![(0, 1)] });
     }
 
     /// Places taken twice, or at N and above.
@@ -310,9 +335,8 @@ impl World {
 
     /// A stash more, of any size and name, held or not.
     fn one_more_stash(&mut self, rng: &mut Rng, at: usize) {
-        let bound = self.image.len();
-        let k = if bound == 0 { 0 } else { rng.between(0, self.work + 1) };
-        let source = any_set(rng, k, bound);
+        let k = rng.between(1, self.work + 1);
+        let source = any_set(rng, k, self.image.len().max(1));
         let mut hash = [rng.next_u64() as u8; 20];
         let old = self.commands.iter().find_map(|c| if let Command::Stash { hash, .. } = c { Some(*hash) } else { None });
         if rng.percent(70) {
@@ -332,7 +356,7 @@ impl World {
                 *from = u32::MAX;
             }
             if rng.percent(30) {
-                target.extend((0..=self.result as u32).map(|_| (0, bound.min(1))));
+                target.extend((0..=self.result as u32).map(|_| (0, 1)));
             }
         }
         let Some((target, n, source)) = self.commands.get_mut(at).and_then(Command::moved) else { return };
@@ -351,7 +375,7 @@ impl World {
             match (rng.below(7), &mut from, &mut parts) {
                 (0, _, _) => target.push((0, bound + 1)),
                 (1, _, _) => *n = work + 1,
-                (2, Some(set), _) => set.push((bound + 2, bound + 2)),
+                (2, Some(set), _) => set.push((bound + 1, bound + 2)),
                 (3, Some(set), _) => set.push((0, bound)),
                 (4, _, Some(parts)) => {
                     let k = rng.below(parts.len());
@@ -374,7 +398,6 @@ impl World {
     /// A patch malformed, cut or longer, or a target that it does not fit; the list opens all the same, mostly.
     pub fn spoil_patch(&mut self, rng: &mut Rng) {
         let at = self.seek(rng.below(self.commands.len()), is_bsdiff);
-        let bound = self.image.len();
         let Some(Command::Bsdiff { from, bytes, hash, result, .. }) = self.commands.get_mut(at) else { return };
         // The source's hash, too, now and then: it comes first.
         if rng.one_in(12) {
@@ -383,7 +406,7 @@ impl World {
         let start = (*from as usize).min(self.patch.len());
         let end = start.saturating_add(*bytes as usize).min(self.patch.len());
         let patch = &mut self.patch[start..end];
-        match rng.below(12) {
+        match rng.below(13) {
             0..=6 => patch::spoil(rng, patch),
             7 | 8 => {
                 // Cut or longer, and there are bytes enough for it.
@@ -398,15 +421,15 @@ impl World {
                 // A block more or less of the target.
                 let follows = self.header[1] == self.total();
                 let Some(Command::Bsdiff { target, .. }) = self.commands.get_mut(at) else { return };
-                if rng.percent(50) && bound > 0 {
+                if rng.percent(40) || !one_block_less(target) {
                     target.push((0, 1));
-                } else if let Some(pair) = target.iter_mut().find(|pair| pair.0 < pair.1) {
-                    pair.1 -= 1;
                 }
                 if follows {
                     self.header[1] = self.total();
                 }
             }
+            // No record at all.
+            11 if rng.one_in(3) => *bytes = 0,
             _ => result[rng.below(20)] ^= 1 << rng.below(8),
         }
     }
@@ -431,10 +454,8 @@ impl World {
     fn other_result(&mut self, rng: &mut Rng, at: usize) {
         let (room, bound) = (self.result, self.image.len());
         let Some(Command::Bsdiff { target, .. }) = self.commands.get_mut(at) else { return };
-        if bound > 0 {
-            let blocks = rng.pick(&[room, room + 1, room + 1, room + 1, room + 20]);
-            *target = any_set(rng, blocks, bound);
-        }
+        let blocks = rng.pick(&[room, room + 1, room + 1, room + 1, room + 20]);
+        *target = any_set(rng, blocks, bound);
     }
 
     /// A field less, one twice, or two of them in the other order.
@@ -482,8 +503,8 @@ const RAW_LINES: [&[u8]; 30] = [
     b"bsdiff 0 3169086 ffc645d03fa4f56e72fefa872b792a76c26f9bb4 4bc0c9ddf123d54a04c800824c0951873e195ef1 2,0,1 1 2,0,1",
     b"bsdiff",
     b"bsdiff ",
-    b"bsdiff 0 0 da39a3ee5e6b4b0d3255bfef95601890afd80709 2,0,0 0 2,0,0",
-    b"bsdiff 0 4294967296 da39a3ee5e6b4b0d3255bfef95601890afd80709 da39a3ee5e6b4b0d3255bfef95601890afd80709 2,0,0 0 2,0,0",
+    b"bsdiff 0 0 da39a3ee5e6b4b0d3255bfef95601890afd80709 2,0,1 1 2,0,1",
+    b"bsdiff 0 4294967296 da39a3ee5e6b4b0d3255bfef95601890afd80709 da39a3ee5e6b4b0d3255bfef95601890afd80709 2,0,1 1 2,0,1",
     b"imgdiff\t0",
     b"bsdiff\t0",
     b"bsdiffs 1",
@@ -496,11 +517,11 @@ const RAW_LINES: [&[u8]; 30] = [
     b"stash ",
     b"free",
     b"new",
-    b"erase  2,0,0",
-    b"Zero 2,0,0",
-    b"zero 2,0,0 ",
-    b"zero\t2,0,0",
-    b"zero 2,0,0\r",
+    b"erase  2,0,1",
+    b"Zero 2,0,1",
+    b"zero 2,0,1 ",
+    b"zero\t2,0,1",
+    b"zero 2,0,1\r",
     b"free da39a3ee5e6b4b0d3255bfef95601890afd80709 ",
-    b"move da39a3ee5e6b4b0d3255bfef95601890afd80709 2,0,0 0 2,0,0 2,0,0",
+    b"move da39a3ee5e6b4b0d3255bfef95601890afd80709 2,0,1 1 2,0,1 2,0,1",
 ];

@@ -7,7 +7,7 @@ use reference::{Hash, Refusal, State, BLOCK, MOST_AREA, MOST_STASHES};
 /// Changes one thing in a state: at a border, at random, or so that it is another possible state.
 pub fn disturb(rng: &mut Rng, state: &mut State, list: &[u8]) {
     let starts = line_starts(list);
-    match rng.below(24) {
+    match rng.below(32) {
         0 => {
             let near = rng.pick(&[state.count, 64, MOST_STASHES, MOST_STASHES]);
             state.count = rng.pick(&[0, 1, 2, usize::MAX, near, near.wrapping_add(1), near.wrapping_add(1), near.wrapping_sub(1)]);
@@ -98,7 +98,7 @@ pub fn disturb(rng: &mut Rng, state: &mut State, list: &[u8]) {
             state.refusal = Refusal { number, line: rng.pick(&[0, 1, 5, 77, usize::MAX]), byte: rng.pick(&[0, 1, 8, byte]) };
         }
         19 | 23 => {
-            // As many stashes as may be, of no blocks.
+            // As many stashes as may be, of no blocks, which no list makes.
             let count = rng.pick(&[MOST_STASHES, MOST_STASHES, MOST_STASHES - 1, MOST_STASHES + 1, MOST_STASHES + 1, 65, 3]);
             let last = count.min(MOST_STASHES) - 1;
             for k in 0..=last {
@@ -118,9 +118,31 @@ pub fn disturb(rng: &mut Rng, state: &mut State, list: &[u8]) {
             state.sizes[k] = rng.below(4);
         }
         21 => everything(rng, state),
+        24..=31 => without_blocks(rng, state, list, &starts),
         // With a number or with none.
         _ if rng.percent(50) => state.refusal.byte = rng.pick(&[1, 8, list.len(), usize::MAX]),
         _ => state.refusal.line = rng.pick(&[1, 5, usize::MAX]),
+    }
+}
+
+/// At a line that names stashes: they are held, the first of them without blocks.
+fn without_blocks(rng: &mut Rng, state: &mut State, list: &[u8], starts: &[usize]) {
+    let of = |word: &[u8]| -> Vec<usize> {
+        (0..starts.len()).filter(|k| list[starts[*k]..].starts_with(word) && !stashes_named(&list[starts[*k]..]).is_empty()).collect()
+    };
+    let mut kinds = [&b"free "[..], b"move ", b"bsdiff ", b"stash "].map(of);
+    // Nearly every list that has the others has the last.
+    rng.shuffle(&mut kinds[..3]);
+    let Some(lines) = kinds.iter().find(|lines| !lines.is_empty()) else { return };
+    let k = rng.pick(lines);
+    (state.at, state.line, state.into, state.count) = (starts[k], k + 1, 0, 0);
+    for hash in stashes_named(&list[starts[k]..]) {
+        let j = state.count;
+        if j < MOST_STASHES && !state.hashes[..20 * j].chunks(20).any(|other| other == hash) {
+            set_hash(state, j, &hash);
+            state.sizes[j] = if j == 0 { 0 } else { rng.below(2) };
+            state.count += 1;
+        }
     }
 }
 
@@ -173,17 +195,32 @@ fn set_hash(state: &mut State, k: usize, hash: &Hash) {
 
 /// A hash that the text names, if it names any.
 fn named_hash(rng: &mut Rng, list: &[u8]) -> Option<Hash> {
-    let hex = |c: u8| matches!(c, b'0'..=b'9' | b'a'..=b'f');
-    let starts: Vec<usize> =
-        (0..list.len().saturating_sub(40)).filter(|k| (*k == 0 || !hex(list[*k - 1])) && list[*k..*k + 40].iter().all(|c| hex(*c))).collect();
-    if starts.is_empty() {
-        return None;
-    }
-    let at = rng.pick(&starts);
+    let is_digit = |c: u8| hex_value(c).is_some();
+    let starts: Vec<usize> = (0..list.len()).filter(|k| (*k == 0 || !is_digit(list[*k - 1])) && hash_at(&list[*k..]).is_some()).collect();
+    (!starts.is_empty()).then(|| hash_at(&list[rng.pick(&starts)..]))?
+}
+
+/// The stashes that the line at the text's start makes, frees or takes a source from.
+fn stashes_named(text: &[u8]) -> Vec<Hash> {
+    let line = text.split(|c| *c == b'\n').next().unwrap_or(b"");
+    let one = line.starts_with(b"free ") || line.starts_with(b"stash ");
+    line.split(|c| *c == b' ').filter(|field| one || field.get(40) == Some(&b':')).filter_map(hash_at).collect()
+}
+
+/// The hash that these bytes begin with.
+fn hash_at(text: &[u8]) -> Option<Hash> {
+    let digits = text.first_chunk::<40>()?;
     let mut hash = [0u8; 20];
-    for (byte, two) in hash.iter_mut().zip(list[at..at + 40].chunks(2)) {
-        let value = |c: u8| if c <= b'9' { c - b'0' } else { c - b'a' + 10 };
-        *byte = 16 * value(two[0]) + value(two[1]);
+    for (byte, two) in hash.iter_mut().zip(digits.chunks(2)) {
+        *byte = 16 * hex_value(two[0])? + hex_value(two[1])?;
     }
     Some(hash)
+}
+
+fn hex_value(c: u8) -> Option<u8> {
+    match c {
+        b'0'..=b'9' => Some(c - b'0'),
+        b'a'..=b'f' => Some(c - b'a' + 10),
+        _ => None,
+    }
 }

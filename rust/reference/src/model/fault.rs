@@ -6,19 +6,19 @@
 //!   field's form depends on what another one says. Behind its last field a form can only go on with P's.
 //! - A word, a hash, a dash, and a P up to its colon have one length, and so has a field with no byte yet: what it lacks is what the form's own
 //!   field has from there on. A hash takes any digits.
-//! - A number that is no end is good with the digits that it has, or with a 0 where it has none. A count that is odd may be even with a
-//!   digit more; the least that can follow is a 0, and makes it even.
-//! - An end reaches its start if the greatest number does that begins with its digits: 4,294,967,295 if that does, else they and as many nines
+//! - A number that is no end is good with the digits that it has, or with a 0 where it has none: a digit more makes no start smaller. A count
+//!   that is odd may be even with a digit more; the least that can follow is a 0, and makes it even.
+//! - An end passes its start if the greatest number does that begins with its digits: 4,294,967,295 if that does, else they and as many nines
 //!   as fit.
-//! - Behind a count two numbers of 0, behind a start the greatest end, behind an end nothing: the set then has whole pairs.
-//! - A set may announce more numbers than any list has room for. Each pair is judged alone, and those that are missing may be zeros: with an even
-//!   count the set can go on just when it is good with the number of those that are there in the count's place.
+//! - Behind a count the first block, behind a start the greatest end, behind an end nothing: the set then has whole pairs.
+//! - A set may announce more numbers than any list has room for. Each pair is judged alone, and those that are missing may name the first block:
+//!   with an even count the set can go on just when it is good with the number of those that are there in the count's place.
 
 use super::read::{decode, number};
 
 const HASH: &str = "0000000000000000000000000000000000000000";
-const PART: &str = "0000000000000000000000000000000000000000:2,0,0";
-const SET: &str = "2,0,0";
+const PART: &str = "0000000000000000000000000000000000000000:2,0,1";
+const SET: &str = "2,0,1";
 const MOST: &str = "4294967295";
 
 /// A line of each form, by its fields.
@@ -84,7 +84,7 @@ fn endings(field: &[u8], form: &str) -> Vec<String> {
     let digits = field.iter().rev().take_while(|c| c.is_ascii_digit()).count();
     let mut all = vec![form.get(field.len()..).unwrap_or("").to_string()];
     match commas {
-        0 => all.extend([",0,0", "0,0,0"].map(String::from)),
+        0 => all.extend([",0,1", "0,0,1"].map(String::from)),
         _ if commas % 2 == 1 => all.extend(["", "0"].map(|more| format!("{more},{MOST}"))),
         _ => {
             all.extend((0..=9).map(|nines| "9".repeat(nines)));

@@ -39,7 +39,7 @@ fn ranges(field: &[u8]) -> Option<Ranges> {
         return None;
     }
     let pairs: Ranges = ends.chunks(2).map(|two| (two[0], two[1])).collect();
-    pairs.iter().all(|(start, end)| start <= end).then_some(pairs)
+    pairs.iter().all(|(start, end)| start < end).then_some(pairs)
 }
 
 fn parts(fields: &[&[u8]]) -> Option<Vec<(Vec<u8>, Ranges)>> {

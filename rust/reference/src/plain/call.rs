@@ -2,7 +2,7 @@
 
 use super::check::{check, Marks};
 use super::command::{decode, Bsdiff, Command, Move};
-use super::text::Set;
+use super::text::{Set, LEAST};
 use super::{header, open, patch, Header};
 use crate::{digest, Answer, Areas, Lengths, Outcome, Refusal, State, BLOCK, MOST_STASHES};
 
@@ -55,7 +55,7 @@ fn possible(list: &[u8], lengths: &Lengths, state: &State) -> Option<Header> {
         return None;
     }
     if state.into != 0 {
-        let target = match decode(list, state.at) {
+        let target = match decode(list, state.at, LEAST) {
             Ok((Command::New(target), _)) => target,
             _ => return None,
         };
@@ -71,7 +71,7 @@ fn run_lines(list: &[u8], header: &Header, areas: &mut Areas, piece: &[u8], stat
     let mut marks = Marks::new();
     let mut taken = 0;
     while state.at < list.len() {
-        let outcome = match decode(list, state.at) {
+        let outcome = match decode(list, state.at, LEAST) {
             Ok((command, next)) => match check(list, header, &lengths, state, &mut marks, &command) {
                 Ok(()) => run_command(list, areas, piece, state, &mut taken, &command).map(|going| (going, next)).map_err(|number| (number, 0)),
                 Err(number) => Err((number, 0)),

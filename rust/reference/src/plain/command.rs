@@ -55,7 +55,7 @@ impl Iterator for Parts<'_> {
 
 impl Move {
     pub(super) fn parts<'a>(&self, text: &'a [u8]) -> impl Iterator<Item = (Hash, Set)> + 'a {
-        Parts { reader: Reader { text, at: self.first }, left: self.parts }
+        Parts { reader: Reader { text, at: self.first, least: 0 }, left: self.parts }
     }
 }
 
@@ -67,9 +67,10 @@ fn is_imgdiff(text: &[u8]) -> bool {
     }
 }
 
-/// The command line at `at` and where the next line starts; or 6 and the byte of the line's first fault, or 7.
-pub(super) fn decode(list: &[u8], at: usize) -> Result<(Command, usize), (usize, usize)> {
-    let mut reader = Reader { text: list, at };
+/// The command line at `at`, each of its ranges of so many blocks at least, and where the next line starts; or 6 and the byte of the line's
+/// first fault, or 7.
+pub(super) fn decode(list: &[u8], at: usize, least: u64) -> Result<(Command, usize), (usize, usize)> {
+    let mut reader = Reader { text: list, at, least };
     match command(&mut reader) {
         Some(command) => Ok((command, reader.at)),
         None if is_imgdiff(list.get(at..).unwrap_or_default()) => Err((7, 0)),

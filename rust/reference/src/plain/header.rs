@@ -37,7 +37,7 @@ pub fn header(list: &[u8], lengths: &Lengths) -> Result<Header, Refusal> {
 
 /// The version and the other lines; or 3.
 fn read(list: &[u8]) -> Result<(u64, Header), Refusal> {
-    let mut reader = Reader { text: list, at: 0 };
+    let mut reader = Reader { text: list, at: 0, least: 0 };
     let mut numbers = [0u64; 4];
     for (k, number) in numbers.iter_mut().enumerate() {
         match line(&mut reader) {

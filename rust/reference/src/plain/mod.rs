@@ -12,5 +12,5 @@ mod text;
 
 pub use call::{call, run, Called};
 pub use header::{header, Header};
-pub use open::open;
+pub use open::{open, open_with};
 pub use sparse::load_sparse;

@@ -4,12 +4,17 @@ use crate::Hash;
 
 const MOST_NUMBER: u64 = 4_294_967_295;
 
+/// The fewest blocks that a range may have.
+pub(super) const LEAST: u64 = 1;
+
 /// A place in the text. What must stand there is read and moves it on. Where that does not stand there, the place is then the first byte at
 /// which no good line could go on, or the text's end.
 #[derive(Clone, Copy)]
 pub(super) struct Reader<'a> {
     pub(super) text: &'a [u8],
     pub(super) at: usize,
+    /// The fewest blocks of a range; 0 where there is none to read, or where it was read before.
+    pub(super) least: u64,
 }
 
 /// A range set as it stands in the text.
@@ -43,6 +48,11 @@ impl<'a> Reader<'a> {
 
     /// Decimal, at most 4,294,967,295, no sign, no leading zero.
     pub(super) fn number(&mut self) -> Option<u64> {
+        self.number_to(MOST_NUMBER)
+    }
+
+    /// The same, at most this one.
+    fn number_to(&mut self, most: u64) -> Option<u64> {
         let start = self.at;
         let mut value = 0u64;
         while let Some(c @ b'0'..=b'9') = self.peek() {
@@ -50,7 +60,7 @@ impl<'a> Reader<'a> {
                 return None;
             }
             value = 10 * value + (c - b'0') as u64;
-            if value > MOST_NUMBER {
+            if value > most {
                 return None;
             }
             self.at += 1;
@@ -96,7 +106,7 @@ impl<'a> Reader<'a> {
         Some(hash)
     }
 
-    /// A count, even and at least 2, then that many numbers; each pair's end is not below its start.
+    /// A count, even and at least 2, then that many numbers; each pair is a range of `least` blocks or more.
     pub(super) fn set(&mut self) -> Option<Set> {
         let count = self.count()?;
         let mut set = Set { first: self.at, pairs: (count / 2) as usize, blocks: 0, end: 0 };
@@ -122,13 +132,14 @@ impl<'a> Reader<'a> {
 
     fn pair(&mut self) -> Option<(u64, u64)> {
         self.byte(b',')?;
-        let start = self.number()?;
+        // A start that no end can follow is too large.
+        let start = self.number_to(MOST_NUMBER - self.least)?;
         self.byte(b',')?;
-        let at = self.at;
+        let (at, lowest) = (self.at, start + self.least);
         match self.number() {
-            Some(end) if end >= start => Some((start, end)),
+            Some(end) if end >= lowest => Some((start, end)),
             _ => {
-                self.no_number(at, |value| reaches(value, start));
+                self.no_number(at, |value| reaches(value, lowest));
                 None
             }
         }
@@ -142,11 +153,11 @@ impl<'a> Reader<'a> {
     }
 }
 
-/// Whether these digits, with some more behind them or none, can be a number that is not below `least`.
-fn reaches(value: u64, least: u64) -> bool {
+/// Whether these digits, with some more behind them or none, can be a number that is not below `lowest`.
+fn reaches(value: u64, lowest: u64) -> bool {
     let (mut low, mut high) = (value, value);
     while low <= MOST_NUMBER {
-        if high >= least {
+        if high >= lowest {
             return true;
         }
         if value == 0 {
@@ -179,7 +190,7 @@ impl Iterator for Pairs<'_> {
 
 impl Set {
     pub(super) fn pairs<'a>(&self, text: &'a [u8]) -> impl Iterator<Item = (usize, usize)> + 'a {
-        Pairs { reader: Reader { text, at: self.first }, left: self.pairs }
+        Pairs { reader: Reader { text, at: self.first, least: 0 }, left: self.pairs }
     }
 
     /// The block numbers in the written order.

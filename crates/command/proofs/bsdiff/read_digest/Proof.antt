@@ -5,6 +5,7 @@ use Prim.Native.Nat.{ℕ}
 use mathlib.Core.List.{List}
 use Rattle.text.specs.declared.expected.Expected.the-variants as expected
 use Rattle.text.specs.declared.hash.Hash.{Hash}
+use Rattle.ranges.specs.Ranges.{leastBlocks}
 use Rattle.command.specs.declared.sourced.Purpose.the-variants as purpose
 use Rattle.command.specs.declared.Command.{Command}
 use Rattle.command.specs.declared.Command.the-variants.{Bad}
@@ -15,11 +16,11 @@ use Rattle.command.proofs.bsdiff.read_digest.Statement.{statement}
 use Rattle.command.proofs.bsdiff.read_digest.Tie as tie
 
 module _ (l : List ℕ) (at : ℕ) {h : Hash} (hash : h ≡ hashField l at) where
-  hash-fault : {p : ℕ} → h .read ≡ expected.Bad p → Bad p ≡ digestFrom l at
+  hash-fault : {p : ℕ} → h .read ≡ expected.Bad p → Bad p ≡ digestFrom leastBlocks l at
   unfolding digestFrom
   hash-fault e = rw (← hash, e)
 
-  hash-read : {i : ℕ} {c : Command} → h .read ≡ expected.Past i → c ≡ targetFrom l purpose.Bsdiff i → c ≡ digestFrom l at
+  hash-read : {i : ℕ} {c : Command} → h .read ≡ expected.Past i → c ≡ targetFrom leastBlocks l purpose.Bsdiff i → c ≡ digestFrom leastBlocks l at
   unfolding digestFrom
   hash-read e k = rw (← hash, e) k
 

@@ -7,6 +7,7 @@ use mathlib.Core.Path.{_≡_, refl, ap, _∙_}
 use mathlib.Core.List.{List}
 use lib.ListN.{length}
 use borrow.Author.Needs.{needs}
+use Rattle.ranges.specs.Ranges.{leastBlocks}
 use Rattle.ranges.specs.declared.RangeSet.{RangeSet}
 use Rattle.command.specs.declared.parts.Part.{Part}
 use Rattle.command.specs.declared.parts.PartRead.the-variants as read
@@ -20,29 +21,29 @@ use Rattle.command.proofs.parts.check_parts.Tie as tie
 record Checking (l : List ℕ) (first at : ℕ) : Type 0 where
   n : ℕ
   enough : length l ≤ n + at
-  same : partsIn (suc n) l first at ≡ partsAt l first
+  same : partsIn leastBlocks (suc n) l first at ≡ partsAt leastBlocks l first
 
-module _ (l : List ℕ) (first at : ℕ) (p : Part) (k : Checking l first at) (is : p ≡ partAt l at) where
+module _ (l : List ℕ) (first at : ℕ) (p : Part) (k : Checking l first at) (is : p ≡ partAt leastBlocks l at) where
   checking-more : {places : RangeSet} {next : ℕ} → p .read ≡ read.More places next → Checking l first next
   unfolding partsIn
   checking-more {places} {next} f =
-      let e = part-read l at p is f in
-      let h = part-next l at e in
+      let e = part-read leastBlocks l at p is f in
+      let h = part-next leastBlocks l at e in
       let some : suc (k .n - 1) ≡ k .n = omega (arith, k .enough) in
-      let here : partsIn (k .n) l first next ≡ partsIn (suc (k .n)) l first at = rw e in
+      let here : partsIn leastBlocks (k .n) l first next ≡ partsIn leastBlocks (suc (k .n)) l first at = rw e in
       record {
         n = k .n - 1;
         enough = omega (arith, k .enough);
-        same = ap (λ (n : ℕ). partsIn n l first next) some ∙ here ∙ k .same;
+        same = ap (λ (n : ℕ). partsIn leastBlocks n l first next) some ∙ here ∙ k .same;
       }
 
-  checking-last : {places : RangeSet} {next : ℕ} → p .read ≡ read.Last places next → parts.Good first ≡ partsAt l first
+  checking-last : {places : RangeSet} {next : ℕ} → p .read ≡ read.Last places next → parts.Good first ≡ partsAt leastBlocks l first
   unfolding partsIn
-  checking-last f = rw (part-read l at p is f) at (k .same)
+  checking-last f = rw (part-read leastBlocks l at p is f) at (k .same)
 
-  checking-bad : {q : ℕ} → p .read ≡ read.Bad q → parts.Bad q ≡ partsAt l first
+  checking-bad : {q : ℕ} → p .read ≡ read.Bad q → parts.Bad q ≡ partsAt leastBlocks l first
   unfolding partsIn
-  checking-bad f = rw (part-read l at p is f) at (k .same)
+  checking-bad f = rw (part-read leastBlocks l at p is f) at (k .same)
 
 abbrev Inv-loop : tie.InvT-loop
 Inv-loop l first at₀ at = Checking l first at
@@ -62,7 +63,7 @@ returns-2 c = search checking-last
 
 loop-less : tie.Need-loop-less Inv-loop μ-loop
 loop-less c =
-    let h = part-next _ _ (part-read _ _ _ (c .before .before .before .read-part .ensures) (c .before .read2 .given .1)) in
+    let h = part-next _ _ _ (part-read _ _ _ _ (c .before .before .before .read-part .ensures) (c .before .read2 .given .1)) in
     omega arith
 
 loop-again : tie.Need-loop-again Inv-loop μ-loop

@@ -12,12 +12,12 @@ use Rattle.command.specs.Parts.{placesFrom, partAt}
 use Rattle.command.proofs.parts.read_part.Statement.{statement}
 use Rattle.command.proofs.parts.read_part.Tie as tie
 
-module _ (l : List ℕ) (at : ℕ) {h : Hash} (hash : h ≡ hashAt l at) where
-  hash-fault : {p : ℕ} → h .read ≡ expected.Bad p → record { read = read.Bad p; hash = h .bytes } ≡ partAt l at
+module _ (least : ℕ) (l : List ℕ) (at : ℕ) {h : Hash} (hash : h ≡ hashAt l at) where
+  hash-fault : {p : ℕ} → h .read ≡ expected.Bad p → record { read = read.Bad p; hash = h .bytes } ≡ partAt least l at
   unfolding partAt
   hash-fault e = rw (← hash, e)
 
-  hash-read : {i : ℕ} {r : PartRead} → h .read ≡ expected.Past i → r ≡ placesFrom l i → record { read = r; hash = h .bytes } ≡ partAt l at
+  hash-read : {i : ℕ} {r : PartRead} → h .read ≡ expected.Past i → r ≡ placesFrom least l i → record { read = r; hash = h .bytes } ≡ partAt least l at
   unfolding partAt
   hash-read e k = rw (← hash, e, k)
 

@@ -11,7 +11,7 @@ use borrow.Author.Tests.{lt-ltb, le-ltb}
 use Rattle.ranges.specs.declared.Pair.the-variants as pair
 use Rattle.ranges.specs.declared.walk.Step.the-variants.{Block, Done}
 use Rattle.text.specs.Number.{largest}
-use Rattle.ranges.specs.Ranges.{pairAt}
+use Rattle.ranges.specs.Ranges.{leastAgain, pairAt}
 use Rattle.ranges.specs.Walk.{stepIn, stepOf}
 use Rattle.ranges.proofs.walk.next_block.Statement.{statement}
 use Rattle.ranges.proofs.walk.next_block.Tie as tie
@@ -31,7 +31,7 @@ module _ (n : ℕ) (s : List ℕ) (at block end : ℕ) where
     unfolding stepIn
     step-none z = rw (z, le-ltb block end h)
 
-    step-bad : {p : ℕ} → 0 < n → pairAt s at ≡ pair.Bad p → stepIn n s at block end ≡ Done
+    step-bad : {p : ℕ} → 0 < n → pairAt leastAgain s at ≡ pair.Bad p → stepIn n s at block end ≡ Done
     unfolding stepIn
     step-bad l e = go n l
       where
@@ -39,7 +39,7 @@ module _ (n : ℕ) (s : List ℕ) (at block end : ℕ) where
         go zero l = absurd (omega arith)
         go (suc n) l = rw (le-ltb block end h, e)
 
-    step-next : {start past next : ℕ} → 0 < n → pairAt s at ≡ pair.Good start past next →
+    step-next : {start past next : ℕ} → 0 < n → pairAt leastAgain s at ≡ pair.Good start past next →
         stepIn n s at block end ≡ stepIn (n - 1) s next start past
     unfolding stepIn
     step-next {start} {past} {next} l e = go n l

@@ -8,6 +8,7 @@ use mathlib.Core.List.{List, [], _∷_}
 use native.Mathlib.Omega.{arith}
 use lib.ListN.{length}
 use Rattle.text.specs.Choice.{either}
+use Rattle.ranges.specs.Ranges.{leastAgain}
 use Rattle.ranges.specs.declared.RangeSet.{RangeSet}
 use Rattle.state.specs.Stashes.{Stash, tableAt, heldIn}
 use Rattle.state.specs.Sums.{bound, bounded}
@@ -63,10 +64,10 @@ summing-start l first held =
     }
 
 module _ {l : List ℕ} {first : ℕ} {held : List Stash} {sums : Sums} {at : ℕ} {p : Part} (k : Summing l first held sums at)
-    (is : p ≡ partAt l at) where
+    (is : p ≡ partAt leastAgain l at) where
   summing-bad : {q : ℕ} → p .read ≡ read.Bad q → sums ≡ sumsOf held (usesAt l first)
   unfolding sumsFrom
-  summing-bad f = sym (ap (sumsFrom held sums) (named-bad (k .text) (part-read l at p is f))) ∙ k .same
+  summing-bad f = sym (ap (sumsFrom held sums) (named-bad (k .text) (part-read leastAgain l at p is f))) ∙ k .same
 
   summing-last : {places : RangeSet} {next : ℕ} {r : Sums} → p .read ≡ read.Last places next →
       r ≡ sumsWith sums held (p .hash) (places .blocks) → r ≡ sumsOf held (usesAt l first)
@@ -74,15 +75,15 @@ module _ {l : List ℕ} {first : ℕ} {held : List Stash} {sums : Sums} {at : �
   summing-last {places} f e =
       e
       ∙ ap (λ (q : Part). sumsWith sums held (q .hash) (places .blocks)) is
-      ∙ sym (ap (sumsFrom held sums) (named-last (k .text) (part-read l at p is f)))
+      ∙ sym (ap (sumsFrom held sums) (named-last (k .text) (part-read leastAgain l at p is f)))
       ∙ k .same
 
   summing-more : {places : RangeSet} {next : ℕ} {r : Sums} → p .read ≡ read.More places next →
       r ≡ sumsWith sums held (p .hash) (places .blocks) → (at < next) × (next ≤ length l) × Summing l first held r next
   unfolding sumsFrom
   summing-more {places} f e =
-      let t = part-read l at p is f in
-      let h = part-next l at t in
+      let t = part-read leastAgain l at p is f in
+      let h = part-next leastAgain l at t in
       let m = named-more (k .text) t in (
         h .0,
         h .1,

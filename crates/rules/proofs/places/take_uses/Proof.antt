@@ -9,6 +9,7 @@ use native.Mathlib.Omega.{arith}
 use lib.ListN.{length}
 use borrow.Author.Needs.{needs}
 use borrow.Author.Tests.{not-true, not-false}
+use Rattle.ranges.specs.Ranges.{leastAgain}
 use Rattle.ranges.specs.Walk.{blocksAt}
 use Rattle.ranges.specs.declared.RangeSet.{RangeSet}
 use Rattle.command.specs.declared.parts.Part.{Part}
@@ -31,24 +32,24 @@ naming-start : (l : List ℕ) (n : ℕ) (marks : List ℕ) (first : ℕ) → Nam
 naming-start l n marks first = record { ps = usesAt l first; from = named-start l first; pass = pass-start _ _ _ }
 
 module _ {l : List ℕ} {n : ℕ} {before all marks : List ℕ} {at : ℕ} (k : Naming l n before all marks at)
-    (p : Part) (is : p ≡ partAt l at) where
+    (p : Part) (is : p ≡ partAt leastAgain l at) where
   naming-bad : {q : ℕ} → p .read ≡ read.Bad q → Takes n before marks all true
   unfolding placesOf
-  naming-bad f = pass-done (pass-left (ap (placesOf l) (named-bad (k .from) (part-read l at p is f))) (k .pass))
+  naming-bad f = pass-done (pass-left (ap (placesOf l) (named-bad (k .from) (part-read leastAgain l at p is f))) (k .pass))
 
   naming-last : {places : RangeSet} {next : ℕ} → p .read ≡ read.Last places next →
       {after : List ℕ} {yes : Bool} → Takes n marks after (blocksAt l (places .at)) yes → Takes n before after all yes
   unfolding placesOf
   naming-last f a =
-      pass-last (pass-left (ap (placesOf l) (named-last (k .from) (part-read l at p is f)) ∙ append-nil _) (k .pass)) a
+      pass-last (pass-left (ap (placesOf l) (named-last (k .from) (part-read leastAgain l at p is f)) ∙ append-nil _) (k .pass)) a
 
   module _ {places : RangeSet} {next : ℕ} (f : p .read ≡ read.More places next) where
     naming-next : (at < next) × (next ≤ length l)
-    naming-next = part-next l at (part-read l at p is f)
+    naming-next = part-next leastAgain l at (part-read leastAgain l at p is f)
 
-    naming-pass : Pass n before all marks (blocksAt l (places .at) ++ placesOf l (named-more (k .from) (part-read l at p is f) .0))
+    naming-pass : Pass n before all marks (blocksAt l (places .at) ++ placesOf l (named-more (k .from) (part-read leastAgain l at p is f) .0))
     unfolding placesOf
-    naming-pass = pass-left (ap (placesOf l) (named-more (k .from) (part-read l at p is f) .1)) (k .pass)
+    naming-pass = pass-left (ap (placesOf l) (named-more (k .from) (part-read leastAgain l at p is f) .1)) (k .pass)
 
     naming-fails : {after : List ℕ} {yes : Bool} → Takes n marks after (blocksAt l (places .at)) yes → yes ≡ false →
         Takes n before after all false
@@ -57,8 +58,8 @@ module _ {l : List ℕ} {n : ℕ} {before all marks : List ℕ} {at : ℕ} (k : 
     naming-more : {after : List ℕ} {yes : Bool} → Takes n marks after (blocksAt l (places .at)) yes → yes ≡ true →
         Naming l n before all after next
     naming-more a e = record {
-      ps = named-more (k .from) (part-read l at p is f) .0;
-      from = named-more (k .from) (part-read l at p is f) .2;
+      ps = named-more (k .from) (part-read leastAgain l at p is f) .0;
+      from = named-more (k .from) (part-read leastAgain l at p is f) .2;
       pass = pass-some _ _ naming-pass a e;
     }
 

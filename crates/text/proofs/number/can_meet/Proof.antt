@@ -45,6 +45,9 @@ mul-result c = search needs
 enum-known-need : tie.Need-enum-known-need
 enum-known-need c = search needs
 
+enum-known-need-2 : tie.Need-enum-known-need-2
+enum-known-need-2 c = search needs
+
 can-reach-requires : tie.Need-can-reach-requires
 can-reach-requires c κs = search needs
 
@@ -57,7 +60,11 @@ returns-4 c = sym (count-odd _ _ (c .before .before .enum-told2 .given .1) (omeg
 
 returns-5 : tie.Need-returns-5
 unfolding canMeet
-returns-5 c = rw (c .before .before .need .given .1) (c .can-reach .ensures)
+returns-5 c = rw (c .before .need .given .1)
+
+returns-6 : tie.Need-returns-6
+unfolding canMeet
+returns-6 c = rw (c .before .before .need2 .given .1) (c .can-reach .ensures)
 
 pub can-meet-spec : {M : Type 1} → statement M
 can-meet-spec =
@@ -69,7 +76,9 @@ can-meet-spec =
     returns-2
     mul-result
     enum-known-need
+    enum-known-need-2
     can-reach-requires
     returns-3
     returns-4
-    returns-5)
+    returns-5
+    returns-6)

@@ -34,6 +34,9 @@ returns c = sym (count-odd _ _ (c .before .enum-told2 .given .1) (c .if1 .taken)
 enum-known-need : tie.Need-enum-known-need
 enum-known-need c = search needs
 
+enum-known-need-2 : tie.Need-enum-known-need-2
+enum-known-need-2 c = search needs
+
 returns-2 : tie.Need-returns-2
 unfolding meets
 returns-2 c = rw (c .enum-told .given .1)
@@ -45,7 +48,11 @@ returns-4 : tie.Need-returns-4
 unfolding meets
 returns-4 c = rw (c .before .need .given .1)
 
+returns-5 : tie.Need-returns-5
+unfolding meets
+returns-5 c = rw (c .before .need2 .given .1)
+
 pub meets-spec : {M : Type 1} → statement M
 meets-spec =
     tie.close
-    (tie.spec enum-told enum-told-2 returns enum-known-need returns-2 returns-3 returns-4)
+    (tie.spec enum-told enum-told-2 returns enum-known-need enum-known-need-2 returns-2 returns-3 returns-4 returns-5)

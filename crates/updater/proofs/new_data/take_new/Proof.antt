@@ -7,7 +7,7 @@ use Prim.Native.Nat.{ℕ, _+_, _-_, _*_, _<_}
 use native.Mathlib.Omega.{arith}
 use borrow.Author.Needs.{needs}
 use lib.ListN.{length}
-use Rattle.ranges.specs.Ranges.{pairAt}
+use Rattle.ranges.specs.Ranges.{leastAgain, pairAt}
 use Rattle.ranges.specs.Walk.{blocksAt}
 use Rattle.ranges.specs.declared.Pair.the-variants as pair
 use Rattle.ranges.proofs.RangesLaws.{pair-order}
@@ -77,12 +77,12 @@ returns-2 c =
 -- the pair that was read
 pair-read : (c : tie.After-known-told2 Inv-loop μ-loop Inv-ranges μ-ranges) →
     let r = c .before .before .before .before .before in
-    pairAt (r .before .before .before .before .before .before .before .before .args .l .now) (r .ranges .next)
+    pairAt leastAgain (r .before .before .before .before .before .before .before .before .args .l .now) (r .ranges .next)
     ≡ pair.Good (c .before .start .given .0 .0) (c .before .start .given .0 .1 .0) (c .before .start .given .0 .1 .1 .0)
 pair-read c = sym (c .before .before .before .read-pair .ensures) ∙ c .before .start .given .1
 
 sub-size : tie.Need-sub-size Inv-loop μ-loop Inv-ranges μ-ranges
-sub-size c = pair-order _ _ (pair-read c)
+sub-size c = pair-order _ _ _ (pair-read c)
 
 cast-size : tie.Need-cast-size Inv-loop μ-loop Inv-ranges μ-ranges
 cast-size c = omega arith

@@ -6,6 +6,7 @@ use Prim.Native.Nat.{ℕ, _+_, _-_, _<_, _^_}
 use native.Mathlib.Omega.{arith}
 use borrow.Author.Needs.{needs}
 use lib.ListN.{length}
+use Rattle.ranges.specs.Ranges.{leastBlocks}
 use Rattle.state.specs.Refusals.{none}
 use Rattle.state.specs.Stashes.{tableAt}
 use Rattle.state.specs.States.{stateOf, stateWith}
@@ -30,14 +31,14 @@ Inv-lines list image₀ stash₀ work₀ result₀ patch piece terms hashes₀ s
     (length image ≡ length image₀) × (length stash ≡ length stash₀) × (length work ≡ length work₀) × (length result ≡ length result₀)
     × (refusal .number ≡ none)
     × (into < 2 ^ 64)
-    × Same (machine list terms) (Fits list terms) piece
+    × Same (machine leastBlocks list terms) (Fits list terms) piece
     (configOf (areasOf image₀ stash₀ work₀ result₀ patch) (stateOf (tableAt hashes₀ sizes₀ count₀) line₀ at₀ into₀ refusal₀ lengths)) 0
     (configOf (areasOf image stash work result patch) (stateOf (tableAt hashes sizes count) line at into refusal lengths)) i
 
 -- Each turn burns fuel, since it ends with a step that needs no byte.
 abbrev μ-lines : tie.MeasureT-lines
 μ-lines list image₀ stash₀ work₀ result₀ patch piece terms hashes₀ sizes₀ marks₀ count₀ line₀ at₀ into₀ refusal₀ lengths i₀ image stash work result hashes sizes marks count line at into refusal i =
-    machine list terms .fuel (configOf (areasOf image stash work result patch) (stateOf (tableAt hashes sizes count) line at into refusal lengths))
+    machine leastBlocks list terms .fuel (configOf (areasOf image stash work result patch) (stateOf (tableAt hashes sizes count) line at into refusal lengths))
 
 -- ---- where a turn starts, where its line is checked, where that is a `new`, where its bytes are taken, and where a command is done
 
@@ -99,7 +100,7 @@ here r =
 
 -- ---- what is known there
 
-kept : (r : Turn) → Same (machine (textOf r) (termsOf r)) (Fits (textOf r) (termsOf r)) (pieceOf r) (first r) 0 (here r) (r .lines .i)
+kept : (r : Turn) → Same (machine leastBlocks (textOf r) (termsOf r)) (Fits (textOf r) (termsOf r)) (pieceOf r) (first r) 0 (here r) (r .lines .i)
 kept r = r .lines .inv .6
 
 checks : (c : Line) →
@@ -161,7 +162,7 @@ lines-holds c =
     let a = c .before .before .before .before .before .before .before .before .before in
     let s = a .args .list .now in
     let terms = a .args .terms in
-    (refl, refl, refl, refl, a .pre .1, a .good .1 .1 .1 .1 .1 .1 .1 .1 .1 .1 .0 .1 .1 .1 .1 .1 .0 .1, same (machine s terms) (Fits s terms) (fits-sound s terms) (a .args .piece .now) _ 0 (a .pre .0) (omega arith))
+    (refl, refl, refl, refl, a .pre .1, a .good .1 .1 .1 .1 .1 .1 .1 .1 .1 .1 .0 .1 .1 .1 .1 .1 .0 .1, same (machine leastBlocks s terms) (Fits s terms) (fits-sound s terms) (a .args .piece .now) _ 0 (a .pre .0) (omega arith))
 
 line-at-requires : tie.Need-line-at-requires Inv-lines μ-lines
 line-at-requires c κs = tt

@@ -7,6 +7,7 @@ use native.Mathlib.Omega.{arith}
 use lib.ListN.{length}
 use borrow.Author.Needs.{needs}
 use mathlib.Core.List.{List, [], _∷_}
+use Rattle.ranges.specs.Ranges.{leastAgain}
 use Rattle.ranges.specs.Walk.{blocksAt}
 use Rattle.ranges.specs.declared.RangeSet.{RangeSet}
 use Rattle.state.specs.Limits.{blockBytes}
@@ -37,12 +38,12 @@ abbrev μ-loop : tie.MeasureT-loop
 μ-loop image stash work₀ l hashes sizes count first at₀ work at = length l - at
 
 module _ {l : List ℕ} {xs : List Stash} {stash : List ℕ} {first : ℕ} {work₀ : List ℕ} {at : ℕ} {work : List ℕ}
-    (k : Spreading l xs stash first work₀ at work) (p : Part) (is : p ≡ partAt l at) where
+    (k : Spreading l xs stash first work₀ at work) (p : Part) (is : p ≡ partAt leastAgain l at) where
   -- what the spreading of one of them leaves
   abbrev One : RangeSet → List ℕ → Type 0
   One places work' = work' ≡ written (blocksAt l (places .at)) (stashBytes xs stash (p .hash)) work
 
-  named-here : {rest : List StashUse} {places : RangeSet} → k .ps ≡ record { hash = partAt l at .hash; places = places } ∷ rest →
+  named-here : {rest : List StashUse} {places : RangeSet} → k .ps ≡ record { hash = partAt leastAgain l at .hash; places = places } ∷ rest →
       k .ps ≡ useOf (p .hash) places ∷ rest
   named-here {rest} {places} e = e ∙ ap (λ (q : Part). useOf (q .hash) places ∷ rest) (sym is)
 
@@ -51,19 +52,19 @@ module _ {l : List ℕ} {xs : List Stash} {stash : List ℕ} {first : ℕ} {work
   fits-here e = rw (k .keeps) (spreads-head l xs (length work₀ / blockBytes) e (k .fits))
 
   bad-same : {q : ℕ} → p .read ≡ read.Bad q → work ≡ spread l xs stash (usesAt l first) work₀
-  bad-same f = sym (spread-done l xs stash (named-bad (k .from) (part-read l at p is f)) work) ∙ k .same
+  bad-same f = sym (spread-done l xs stash (named-bad (k .from) (part-read leastAgain l at p is f)) work) ∙ k .same
 
   module _ {places : RangeSet} {next : ℕ} where
     module _ (f : p .read ≡ read.Last places next) where
       last-here : k .ps ≡ useOf (p .hash) places ∷ []
-      last-here = named-here (named-last (k .from) (part-read l at p is f))
+      last-here = named-here (named-last (k .from) (part-read leastAgain l at p is f))
 
       last-same : {work' : List ℕ} → One places work' → work' ≡ spread l xs stash (usesAt l first) work₀
       last-same {work'} w = sym (spread-done l xs stash refl work') ∙ spread-next l xs stash last-here work w ∙ k .same
 
     module _ (f : p .read ≡ read.More places next) where
       more-here : (rest : List StashUse) × (k .ps ≡ useOf (p .hash) places ∷ rest) × NamedFrom l next rest
-      more-here = let m = named-more (k .from) (part-read l at p is f) in (m .0, named-here (m .1), m .2)
+      more-here = let m = named-more (k .from) (part-read leastAgain l at p is f) in (m .0, named-here (m .1), m .2)
 
       more-left : {work' : List ℕ} → Keeps xs stash → One places work' → Spreading l xs stash first work₀ next work'
       more-left {work'} h w =
@@ -134,7 +135,7 @@ spread-one-requires-2 c κs =
 loop-less : tie.Need-loop-less Inv-loop μ-loop
 loop-less c =
     let b = c .before .before .before .before .before .before .before in
-    let n = part-next _ _ (part-read _ _ _ (b .before .read-part .ensures) (c .before .before .before .before .before .read2 .given .1)) in
+    let n = part-next _ _ _ (part-read _ _ _ _ (b .before .read-part .ensures) (c .before .before .before .before .before .read2 .given .1)) in
     omega arith
 
 loop-again : tie.Need-loop-again Inv-loop μ-loop

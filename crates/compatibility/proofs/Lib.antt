@@ -1,0 +1,10 @@
+pub mod Sets
+pub mod Parts
+pub mod Lines
+pub mod Starts
+pub mod Openings
+pub mod Runs
+pub mod Models
+pub mod Theorem
+pub mod Examples
+pub mod Before

@@ -1,0 +1,3 @@
+pub mod EmptyRanges
+pub mod Matching
+pub mod AsBefore

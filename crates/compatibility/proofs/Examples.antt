@@ -1,5 +1,5 @@
--- Lines with and without an empty range; what opening, call, 17 and model made of such a list before, and make of it now; a line without an empty
--- range whose byte is another now. So the two readings differ wherever the theorem speaks of them.
+-- Lines with and without an empty range; what an opening and a call said of such a list before, and say now, which states were possible (17), and how
+-- many bytes the model took; a line without an empty range whose byte is another now.
 -- Assumes nothing: these are computed.
 use mathlib.Core.Path.{_≡_, refl}
 use mathlib.Core.Bool.{Bool, true, false}
@@ -18,7 +18,8 @@ use Rattle.ranges.specs.Ranges.{leastBlocks, itemAt, pairAt, pairsAt, setAt, si
 use Rattle.ranges.specs.Ranges as sets
 use Rattle.ranges.specs.Walk.{pairsOf, rangesOf, blocksAt}
 use Rattle.state.specs.Stashes.{entries, heldIn, heldTwice, blocksHeld}
-use Rattle.state.specs.States.{refusingAt, noRefusal}
+use Rattle.state.specs.States.{refusingAt, noRefusal, stateAt, withCursor}
+use Rattle.state.specs.declared.State.{State}
 use Rattle.command.specs.Faults.{faultOf, faultByte}
 use Rattle.command.specs.Words.{wordIn, shared, sharedMost}
 use Rattle.command.specs.Fields.{numberField, hashField, setField, lastSet}
@@ -28,7 +29,6 @@ use Rattle.command.specs.declared.Command.the-variants.{Bad}
 use Rattle.command.specs.Targets.{newTarget}
 use Rattle.rules.specs.Held.{heldAfter, tableAfter}
 use Rattle.rules.specs.Rules.{refusalFor, refusalOf}
-use Rattle.rules.specs.declared.Terms.{Terms}
 use Rattle.transfer_list.specs.Header.{headerLineAt, headerOf, areAreas, startRefusal}
 use Rattle.transfer_list.specs.Opening.{lengthsOf, countedBlocks, totalRefusal, linesRefusal, commandsRefusal, openRefusal, firstAt, acceptedState, openState}
 use Rattle.possible.specs.Possible.{sameLengths, atLine, canHold, hasMore, canBeInto, possibleUnder, isPossible, termsUnder, termsFor}
@@ -134,11 +134,17 @@ unfolding meets reaches canMeet endOf digits numberFrom numberFor expectedAt isF
     runLines modelStart model
 model-before = (refl, refl)
 
-possible-before : (terms : Terms) → terms .image ≡ 8 →
-    (canBeInto leastBefore fresh terms 8 1 ≡ true) × (canBeInto leastBlocks fresh terms 8 1 ≡ false)
+-- over an image of 8 blocks, at line 5, which starts at byte 8, with one byte in
+abbrev within : State
+within = stateAt 5 8 noRefusal (lengthsOf fresh 32768 0 0 0 0)
+
+possible-before :
+    (isPossible leastBefore fresh (lengthsOf fresh 32768 0 0 0 0) (withCursor within 5 8 1) ≡ true)
+    × (isPossible leastBlocks fresh (lengthsOf fresh 32768 0 0 0 0) (withCursor within 5 8 1) ≡ false)
 unfolding meets reaches canMeet endOf digits numberFrom numberFor expectedAt isFirstWord itemAt pairAt pairsAt setAt sizeOf sets.endOf summary rangesAt
-    wordIn shared sharedMost setField lastSet rangeLine commandOf lineOf lineAt newTarget hasMore canBeInto
-possible-before terms e = (rw e, refl)
+    wordIn shared sharedMost setField lastSet rangeLine commandOf lineOf lineAt headerLineAt headerOf areAreas startRefusal lfsIn lineNumber
+    entries heldIn heldTwice blocksHeld newTarget sameLengths atLine canHold hasMore canBeInto possibleUnder isPossible
+possible-before = (refl, refl)
 
 -- ---- a start that no end can follow: ill formed before and now, at another byte
 byte-moved :

@@ -37,7 +37,7 @@
 extern "C" {
 #endif
 
-#define MUONGRABI_VERSION "0.7.0"
+#define MUONGRABI_VERSION "0.8.0"
 #define MUONGRABI_ABI 4   /* another number whenever what the archive exports changes: the layout of a struct or the parameters of a function */
 
 /* Limits, 64 bits wide, so that blocks times bytes do not wrap. */
@@ -82,10 +82,10 @@ enum muongrabi_refusal_number {
     MUONGRABI_REFUSAL_HELD_ALREADY = 13,     /* the hash to be stashed is held already */
     MUONGRABI_REFUSAL_NO_ROOM = 14,          /* holding it would pass line 3 or line 4 */
     MUONGRABI_REFUSAL_TOTAL_DIFFERS = 15,    /* all new, zero, move and bsdiff targets together differ from line 2; line 2 */
-    MUONGRABI_REFUSAL_HASH_DIFFERS = 16,     /* in a run: the SHA-1 of a source, or of a patch's result, is not the one in the list */
+    MUONGRABI_REFUSAL_HASH_DIFFERS = 16,     /* in a run: the SHA-1 of a source that is read, or of a patch's result, is not the one in the list */
     MUONGRABI_REFUSAL_STATE_IMPOSSIBLE = 17, /* in a call: state impossible, or the length of list, image, area or patch data changed; line 0 */
     MUONGRABI_REFUSAL_PAST_PATCH = 18,       /* bsdiff's offset and length pass the end of the patch data */
-    MUONGRABI_REFUSAL_PATCH_MALFORMED = 19,  /* in a run: the patch is malformed, or its result is not as long as the target */
+    MUONGRABI_REFUSAL_PATCH_MALFORMED = 19,  /* in a run: a patch that is read is malformed, or its result is not as long as the target */
 
     MUONGRABI_REFUSAL_SPARSE_HEADER = 30,     /* sparse file's header cut short, or its mark or major version another */
     MUONGRABI_REFUSAL_SPARSE_SIZES = 31,      /* its header sizes not 28 and 12, or its block size not 4096 */
@@ -361,10 +361,18 @@ static inline muongrabi_state muongrabi_open_lent(const uint8_t *list, size_t li
  * line is read and checked again (6 to 14, 18) before it runs, so that a line altered since then is refused where it stands. Line 2 is the
  * opening's alone (15).
  *
- * A `bsdiff` puts its source together in the work area, and what the patch makes of it in the result area; only where both have their
- * hashes is the result written to the image. A patch is bsdiff's control triples and bytes unpacked, not a file that bsdiff wrote: records to
- * its end, each the two bytes 0x43 0x50; add length, extra length and seek, eight bytes each as bsdiff has them (lowest first, the top bit of
- * the last one the sign); the bytes to add to the source's; the extra bytes.
+ * A line that is finished is passed over. Of a `move` or `bsdiff` the target's blocks are hashed first, as they stand in the image and in the order
+ * in which the line names them. Where that is the move's hash, or the hash of the bsdiff's result, no source and no patch is read, image, stash,
+ * work and result area stay as they are, and the state goes to the next line. The line is checked before that as any other (6 to 12, 18). All other
+ * commands are always done.
+ *
+ * So a list that is run again from its top over an image that it has updated passes over the lines that are finished. In general that is still not
+ * safe: a later line may have changed a block that an earlier one needs, and what a `stash` names may be gone. After a cut go on from the state.
+ *
+ * A `bsdiff` that is not finished puts its source together in the work area, and what the patch makes of it in the result area; only where both
+ * have their hashes is the result written to the image. A patch is bsdiff's control triples and bytes unpacked, not a file that bsdiff wrote:
+ * records to its end, each the two bytes 0x43 0x50; add length, extra length and seek, eight bytes each as bsdiff has them (lowest first, the top
+ * bit of the last one the sign); the bytes to add to the source's; the extra bytes.
  */
 static inline muongrabi_answer muongrabi_call_lent(const uint8_t *list, size_t list_length,
                                                    uint8_t *image, size_t image_length,

@@ -3,9 +3,9 @@
  *
  * LIST is the transfer list, IMAGE the image that is updated in its place, NEW the new data, read in pieces, so it may be larger than
  * memory, and PATCH the patch data, where the list has `bsdiff` lines. The image is written back after a run, refused or not; a refused opening
- * leaves it alone. The areas are as large as the list needs them. Prints `done T`, `more T` (T: bytes of new data taken) or `refused: ` and why;
- * where a line is ill formed, then the line, and a mark under the first byte that is wrong. Exit status: 0 done, 1 more or refused, 2 for a file
- * that cannot be read or written.
+ * leaves it alone. No state is kept: another run begins at the list's top, and passes over no more than the lines that are finished. The areas are
+ * as large as the list needs them. Prints `done T`, `more T` (T: bytes of new data taken) or `refused: ` and why; where a line is ill formed, then
+ * the line, and a mark under the first byte that is wrong. Exit status: 0 done, 1 more or refused, 2 for a file that cannot be read or written.
  */
 #include <stdio.h>
 #include <stdlib.h>

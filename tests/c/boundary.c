@@ -410,6 +410,59 @@ static void patches(void)
     }
 }
 
+/*
+ * Lines whose target has the result already. A block is a page here, so that what such a line does can be seen: the target's blocks may be read
+ * and not written, and all else that is lent may not be touched.
+ */
+static void finished_lines(void)
+{
+    static uint8_t image[8 * BLOCK];
+    static char text[400];
+    lot i = new_lot(8), s = new_lot(1), w = new_lot(2), r = new_lot(2), p = new_lot(1);
+    char a[41], b[41], bc[41], cb[41], bb[41];
+    name_of("A", a);
+    name_of("B", b);
+    name_of("BC", bc);
+    name_of("CB", cb);
+    name_of("BB", bb);
+    fill(image, "ABCDEFGH");
+    lay(&i, image, sizeof image, 0, 0);
+    lot *others[] = {&i, &s, &w, &r, &p};
+    for (size_t k = 0; k < sizeof others / sizeof *others; k++)
+        if (mprotect(others[k]->first, others[k]->room, PROT_NONE) != 0) exit(2);
+    if (mprotect(i.first + BLOCK, 2 * BLOCK, PROT_READ) != 0) exit(2);
+    /* No source has its hash, and no patch is good. */
+    for (int k = 0; k < 9; k++) {
+        char line[300];
+        if (k == 0) snprintf(line, sizeof line, "move %s 2,1,3 2 2,4,6", bc);
+        if (k == 1) snprintf(line, sizeof line, "move %s 4,2,3,1,2 2 2,4,6", cb);
+        if (k == 2) snprintf(line, sizeof line, "move %s 4,1,2,1,2 2 2,4,6", bb);
+        if (k == 3) snprintf(line, sizeof line, "move %s 2,1,3 2 - %s:2,0,1 %s:2,1,2", bc, a, a);
+        if (k == 4) snprintf(line, sizeof line, "move %s 2,1,3 2 2,4,5 2,0,1 %s:2,1,2", bc, a);
+        if (k == 5) snprintf(line, sizeof line, "bsdiff 0 4096 %s %s 2,1,3 1 2,4,5", a, bc);
+        if (k == 6) snprintf(line, sizeof line, "bsdiff 7 99 %s %s 2,1,3 1 - %s:2,0,1", a, bc, a);
+        if (k == 7) snprintf(line, sizeof line, "bsdiff 4096 0 %s %s 2,1,2 2 2,4,5 2,1,2 %s:2,0,1", a, b, a);
+        if (k == 8) snprintf(line, sizeof line, "bsdiff 0 1 %s %s 4,1,2,1,2 1 2,4,5", a, bb);
+        size_t length = (size_t)snprintf(text, sizeof text, "3\n%d\n1\n1\n%s\n", k == 7 ? 1 : 2, line);
+        /* The stash A is held by hand: a `stash` line would write. */
+        muongrabi_state state;
+        memset(&state, 0, sizeof state);
+        state.at = 8;
+        state.line = 5;
+        state.count = 1;
+        state.sizes[0] = 1;
+        muongrabi_digest(image, BLOCK, state.hashes);
+        state.lengths = (muongrabi_lengths){length, i.room, s.room, w.room, r.room, p.room};
+        muongrabi_state *called = lay_state(state, k % 2), after = state;
+        after.at = length;
+        after.line = 6;
+        muongrabi_answer answer = muongrabi_call(lay(&list_lot, text, length, k % 2, 1), length, i.first, i.room, s.first, s.room, w.first, w.room,
+                                                 r.first, r.room, p.first, p.room, lay(&piece_lot, "piece", 5, 1, 1), 5, called);
+        check(answer.outcome == MUONGRABI_DONE && answer.taken == 0, "a finished line");
+        check(memcmp(called, &after, sizeof after) == 0, "the state behind a finished line");
+    }
+}
+
 /* Areas of no bytes, and states of border values. */
 static void nothing_lent(void)
 {
@@ -837,6 +890,7 @@ int main(void)
     whole_runs(length);
     beginnings(length);
     patches();
+    finished_lines();
     nothing_lent();
     faults();
     states_in_place();

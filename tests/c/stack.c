@@ -78,7 +78,7 @@ static void make_list(void)
 
     put("3\n%lu\n%lu\n%lu\n", 2 * MOST + 1, MOST, MOST);
     for (size_t k = 0; k < MOST; k++) put("stash %s 2,%zu,%zu\n", names[k], k, k + 1);
-    put("move %s 2,0,%lu", whole, MOST);
+    put("move %s 2,1,%lu", whole, MOST + 1);
     put_source(names);
     put("bsdiff 0 %zu %s %s 2,1,%lu", sizeof patch, whole, after, MOST + 1);
     put_source(names);

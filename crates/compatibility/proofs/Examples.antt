@@ -35,7 +35,7 @@ use Rattle.possible.specs.Possible.{sameLengths, atLine, canHold, hasMore, canB
 use Rattle.machine.specs.Machine.{run, advance, feeds}
 use Rattle.updater.specs.Areas.{areasOf}
 use Rattle.updater.specs.Bytes.{zeroed}
-use Rattle.updater.specs.Effect.{zeroEffect, effect}
+use Rattle.updater.specs.Effect.{zeroEffect, unfinishedEffect, isFinished, effect}
 use Rattle.updater.specs.Steps.{Config, configOf, passed, refusedWith, stateAfter, after}
 use Rattle.updater.specs.Run.{quietStep, refusedAt, newBytes, isStopped, needsByte}
 use Rattle.updater.specs.Calls.{outcomeAt, isRun, leaves, says}
@@ -118,7 +118,7 @@ unfolding meets reaches canMeet endOf digits numberFrom numberFor expectedAt isF
     wordIn shared sharedMost setField lastSet rangeLine commandOf faultOf faultByte lineOf lineAt heldAfter refusalFor refusalOf
     headerLineAt headerOf areAreas startRefusal countedBlocks totalRefusal linesRefusal commandsRefusal openRefusal
     lfsIn lineNumber span blocksOf blocksAt pairsOf rangesOf entries heldIn heldTwice blocksHeld tableAfter firstAt acceptedState openState
-    sameLengths atLine canHold hasMore canBeInto possibleUnder isPossible termsUnder termsFor run advance feeds zeroed zeroEffect effect
+    sameLengths atLine canHold hasMore canBeInto possibleUnder isPossible termsUnder termsFor run advance feeds zeroed zeroEffect unfinishedEffect isFinished effect
     passed refusedWith stateAfter after quietStep refusedAt newBytes isStopped needsByte newTarget outcomeAt isRun leaves says
 called-before = (refl, refl)
 
@@ -130,7 +130,7 @@ model-before :
     (model leastBefore fresh (areasOf [] [] [] [] []) (7 ∷ []) .taken ≡ 1)
     × (model leastBlocks fresh (areasOf [] [] [] [] []) (7 ∷ []) .taken ≡ 0)
 unfolding meets reaches canMeet endOf digits numberFrom numberFor expectedAt isFirstWord itemAt pairAt pairsAt setAt sizeOf sets.endOf summary rangesAt
-    wordIn shared sharedMost setField lastSet rangeLine commandOf lineOf lineAt heldAfter headerLineAt headerOf firstAt effect newTarget
+    wordIn shared sharedMost setField lastSet rangeLine commandOf lineOf lineAt heldAfter headerLineAt headerOf firstAt unfinishedEffect isFinished effect newTarget
     runLines modelStart model
 model-before = (refl, refl)
 

@@ -25,7 +25,7 @@ use Rattle.transfer_list.specs.Opening.{firstAt}
 use Rattle.transfer_list.specs.declared.header.Header.{Header}
 use Rattle.transfer_list.specs.declared.header.HeaderRead.the-variants.{Good}
 use Rattle.updater.specs.Areas.{Areas}
-use Rattle.updater.specs.Effect.{Effect, effect}
+use Rattle.updater.specs.Effect.{Effect, unfinishedEffect, isFinished, effect}
 use Rattle.sequence.specs.Model.{Model, withAreas, withAnswer, lineEnds, withBytes, doNew, doEffect, doLine, runLines, modelStart, model}
 use Rattle.compatibility.specs.EmptyRanges.{leastBefore, WithoutEmpty}
 use Rattle.compatibility.proofs.Lines.{IllCommand, SameLine, same, ill, line-same}
@@ -68,7 +68,7 @@ module _ (at : ℕ) (next other : Model → List ℕ → Model) (equal : (m : Mo
 -- an ill formed line does nothing, whatever its fault
 ill-same : (next : Model → List ℕ → Model) (l : List ℕ) (a b : Line) (m : Model) (xs : List ℕ) → IllCommand l (a .command) → IllCommand l (b .command) →
     doLine next l a m xs ≡ doLine next l b m xs
-unfolding newTarget effect heldAfter
+unfolding newTarget effect isFinished unfinishedEffect heldAfter
 ill-same next l a b m xs i j = rw (i .1, j .1)
 
 module _ (s : List ℕ) (w : WithoutEmpty s) where

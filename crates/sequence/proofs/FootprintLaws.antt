@@ -46,7 +46,7 @@ use Rattle.updater.specs.Areas.{Areas, withImage, withStash, withWork, withResu
 use Rattle.updater.specs.Bytes.{addressOf}
 use Rattle.updater.specs.Source.{supplied, together, closedUp, hashesTo}
 use Rattle.updater.specs.Effect.{Effect, done, verified, zeroEffect, targetWritten, moveEffect, patchOf, resultEffect, patchEffect}
-use Rattle.updater.specs.Effect.{bsdiffEffect, stashWritten, stashEffect, closedFound, freeEffect, effect}
+use Rattle.updater.specs.Effect.{bsdiffEffect, stashWritten, stashEffect, closedFound, freeEffect, unfinishedEffect, isFinished, effect}
 use Rattle.updater.specs.Runnable.{Runnable}
 use Rattle.updater.specs.Steps.{Config, passed, refusedWith, furtherInto, stateAfter, after}
 use Rattle.updater.specs.Run.{currentLine, currentCommand, refusalHere, quietStep, newBlocks, newBytes, putByte, isStopped, needsByte}
@@ -133,25 +133,25 @@ module _ (l : List ℕ) (terms : Terms) (held : List Stash) (hash : List ℕ) (a
       moved-same (a .stash) _ _ _ (terms .blocks) (omega arith) (omega arith) (omega arith)
   closed-same Nothing = same (a .stash)
 
-  effect-writes : (c : Command) → refusalFor l terms held hash c ≡ none → Runnable l held a c →
-      Writes l c (terms .blocks) a (effect l held hash c a .areas)
-  unfolding effect zeroEffect moveEffect bsdiffEffect stashEffect freeEffect Runnable targetBlocks sourceLength resultLength
-  effect-writes (command.Zero set) e r = writes-image (zeroed-same (blocksAt l (set .at)) (a .image) (r .below))
-  effect-writes (command.Erase set) e r = writes-image (zeroed-same (blocksAt l (set .at)) (a .image) (r .below))
-  effect-writes (command.New set) e r = writes-nothing l (command.New set) (terms .blocks) a
-  effect-writes (command.Move target n source) e r =
+  unfinished-writes : (c : Command) → refusalFor l terms held hash c ≡ none → Runnable l held a c →
+      Writes l c (terms .blocks) a (unfinishedEffect l held hash c a .areas)
+  unfolding unfinishedEffect zeroEffect moveEffect bsdiffEffect stashEffect freeEffect Runnable targetBlocks sourceLength resultLength
+  unfinished-writes (command.Zero set) e r = writes-image (zeroed-same (blocksAt l (set .at)) (a .image) (r .below))
+  unfinished-writes (command.Erase set) e r = writes-image (zeroed-same (blocksAt l (set .at)) (a .image) (r .below))
+  unfinished-writes (command.New set) e r = writes-nothing l (command.New set) (terms .blocks) a
+  unfinished-writes (command.Move target n source) e r =
       let w = together l (a .image) (a .stash) held source (a .work) in
       let f = move-fits l terms held hash e refl in
       let filled = writes-work (together-same l (a .stash) held n terms (a .image) source (a .work) (f .from) (r .room)) in
       verified-writes (command.Move target n source) n (done (targetWritten l target n)) (withWork a w) filled
       (writes-then filled (writes-image (written-same (blocksAt l (target .at)) (take (blockBytes * n) w) (a .image) (r .goal .below))))
-  effect-writes (command.Bsdiff target n source) e r =
+  unfinished-writes (command.Bsdiff target n source) e r =
       let w = together l (a .image) (a .stash) held source (a .work) in
       let f = bsdiff-fits l terms held hash e refl in
       let filled = writes-work (together-same l (a .stash) held n terms (a .image) source (a .work) (f .from) (r .patched .room)) in
       verified-writes (command.Bsdiff target n source) n (patchEffect l (patchingOf l) target n) (withWork a w) filled
       (writes-then filled (patch-writes l (terms .blocks) (withWork a w) (patchingOf l) target n source (r .patched .goal .below) (r .patched .holds)))
-  effect-writes (command.Stash set) e r =
+  unfinished-writes (command.Stash set) e r =
       let w = supplied l (a .image) (set .at) (set .blocks) (a .work) in
       let f = stash-fits l terms held hash e refl in
       let filled = writes-work (supplied-same l (a .stash) held (set .blocks) (a .image) (set .at) (a .work) (r .room)) in
@@ -161,9 +161,18 @@ module _ (l : List ℕ) (terms : Terms) (held : List Stash) (hash : List ℕ) (a
       (writes-then filled
       (writes-stash
       (over-same (a .stash) (blockBytes * blocksHeld held) (take (blockBytes * set .blocks) w) (terms .blocks) (omega arith) (omega arith))))
-  effect-writes command.Free e r = writes-stash (closed-same (findIn held hash))
-  effect-writes command.Unsupported e r = writes-nothing l command.Unsupported (terms .blocks) a
-  effect-writes (command.Bad p) e r = writes-nothing l (command.Bad p) (terms .blocks) a
+  unfinished-writes command.Free e r = writes-stash (closed-same (findIn held hash))
+  unfinished-writes command.Unsupported e r = writes-nothing l command.Unsupported (terms .blocks) a
+  unfinished-writes (command.Bad p) e r = writes-nothing l (command.Bad p) (terms .blocks) a
+
+  -- one that is finished changes nothing
+  effect-writes : (c : Command) → refusalFor l terms held hash c ≡ none → Runnable l held a c →
+      Writes l c (terms .blocks) a (effect l held hash c a .areas)
+  unfolding effect
+  effect-writes c e r =
+      picks (λ (x : Effect). Writes l c (terms .blocks) a (x .areas)) (isFinished l hash c (a .image)) _ _
+      (λ t. writes-nothing l c (terms .blocks) a)
+      (λ t. unfinished-writes c e r)
 
 -- a byte into a `new`
 byte-writes : (l : List ℕ) (held : List Stash) (a : Areas) (n : ℕ) (c : Command) (k x : ℕ) → Runnable l held a c → k < newBytes c →

@@ -32,7 +32,7 @@ use Rattle.rules.proofs.HeldLaws.{held-after}
 use Rattle.machine.specs.Machine.{feeds, counts}
 use Rattle.machine.proofs.MachineLaws.{Sound, feeds-quiet, counts-quiet, feeds-stopped, counts-stopped, feeds-end, counts-end}
 use Rattle.machine.proofs.LoopLaws.{puts-keeps, feeds-puts, counts-puts}
-use Rattle.updater.specs.Effect.{Effect, effect}
+use Rattle.updater.specs.Effect.{Effect, unfinishedEffect, isFinished, effect}
 use Rattle.updater.specs.Steps.{Config, configOf, passed, refusedWith, furtherInto, stateAfter, after}
 use Rattle.updater.specs.Fits.{Fits}
 use Rattle.updater.specs.Run.{machine, currentLine, currentCommand, refusalHere, quietStep, isStopped, newBytes, newBlocks}
@@ -198,7 +198,7 @@ module _ (s : List ℕ) (terms : Terms) (Inv : Config → Type 0) (g : Runs s te
 
       -- the step after its last byte
       ended : (ys : List ℕ) → stepHere s (fed target ys p) ≡ passedLine (fed target ys p) line
-      unfolding after effect stateAfter tableAfter fed furtherInto passedLine
+      unfolding after effect isFinished unfinishedEffect stateAfter tableAfter fed furtherInto passedLine
       ended ys = rw (is-new (currentCommand leastBlocks s p) e)
 
       past-next : (ys : List ℕ) → Next s (fed target ys p) (passedLine (fed target ys p) line)

@@ -1,5 +1,5 @@
--- Of the image a command reads its source blocks alone: over images that are alike there, the same source is put together, its hash
--- differs or not alike, and the same is patched and stashed.
+-- Of the image a command reads its target blocks, to see whether it is finished, and its source blocks: over images that are alike in
+-- these, the same source is put together, its hash differs or not alike, and the same is patched and stashed.
 -- Assumes nothing.
 use mathlib.Core.Path.{_≡_, refl, sym, _∙_}
 use mathlib.Core.Bool.{Bool, true, false}
@@ -15,19 +15,20 @@ use Rattle.text.proofs.ChoiceLaws.{either-or-true}
 use Rattle.ranges.specs.Walk.{blocksAt}
 use Rattle.state.specs.Limits.{blockBytes}
 use Rattle.state.specs.Stashes.{Stash}
-use Rattle.command.specs.Targets.{imageBlocksOf, sourceBlocks}
+use Rattle.command.specs.Targets.{imageBlocksOf, targetBlocks, sourceBlocks}
 use Rattle.command.specs.declared.source.Source.{Source}
 use Rattle.command.specs.declared.source.Source.the-variants.{Blocks, Stashes, Both}
+use Rattle.command.specs.declared.Command.{Command}
 use Rattle.command.specs.declared.Command.the-variants as command
 use Rattle.rules.specs.Move.{isIn}
 use Rattle.command.specs.Patching.{patchingOf, resultHash}
 use Rattle.patch.specs.Patch.{isPatch}
 use Rattle.updater.specs.Bytes.{blockAt, gathered}
-use Rattle.updater.specs.Source.{supplied, together, hashesTo}
-use Rattle.updater.specs.Areas.{withWork}
+use Rattle.updater.specs.Source.{supplied, together, hashesTo, blocksHashTo}
+use Rattle.updater.specs.Areas.{Areas, withImage, withWork}
 use Rattle.updater.specs.Effect.{Effect, zeroEffect, moveEffect, patchOf, resultMade, resultEffect, patchEffect, bsdiffEffect, stashEffect}
-use Rattle.updater.specs.Effect.{freeEffect, effect}
-use Rattle.sequence.specs.Footprint.{SameIn, SameButImage, OnlyRead}
+use Rattle.updater.specs.Effect.{freeEffect, unfinishedEffect, isFinished, effect}
+use Rattle.sequence.specs.Footprint.{SameIn, SameButImage, OnlyLooked, OnlyRead}
 use Rattle.sequence.proofs.SameLaws.{same-fewer}
 
 -- ---- a source
@@ -80,15 +81,17 @@ alike-pick : (t : Bool) {x y x' y' : Effect} → SameButImage x x' → SameButIm
 alike-pick true e f = e
 alike-pick false e f = f
 
-pub only-read : OnlyRead
-unfolding effect zeroEffect moveEffect bsdiffEffect patchEffect resultEffect stashEffect freeEffect sourceBlocks
-only-read l held hash (command.Zero set) a image f = alike refl refl refl refl
-only-read l held hash (command.Erase set) a image f = alike refl refl refl refl
-only-read l held hash (command.New set) a image f = alike refl refl refl refl
-only-read l held hash (command.Move target n source) a image f =
+unfinished-read : (l : List ℕ) (held : List Stash) (hash : List ℕ) (c : Command) (a : Areas) (image : List ℕ) →
+    SameIn (In (sourceBlocks l c)) (a .image) image →
+    SameButImage (unfinishedEffect l held hash c a) (unfinishedEffect l held hash c (withImage a image))
+unfolding unfinishedEffect zeroEffect moveEffect bsdiffEffect patchEffect resultEffect stashEffect freeEffect sourceBlocks
+unfinished-read l held hash (command.Zero set) a image f = alike refl refl refl refl
+unfinished-read l held hash (command.Erase set) a image f = alike refl refl refl refl
+unfinished-read l held hash (command.New set) a image f = alike refl refl refl refl
+unfinished-read l held hash (command.Move target n source) a image f =
     rw (together-reads l (a .stash) held source (a .work) f)
     (alike-pick (hashesTo (together l (a .image) (a .stash) held source (a .work)) n hash) (alike refl refl refl refl) (alike refl refl refl refl))
-only-read l held hash (command.Bsdiff target n source) a image f =
+unfinished-read l held hash (command.Bsdiff target n source) a image f =
     let work = together l (a .image) (a .stash) held source (a .work) in
     let patching = patchingOf l in
     let made = resultMade patching n (withWork a work) .result in
@@ -98,11 +101,35 @@ only-read l held hash (command.Bsdiff target n source) a image f =
     (alike-pick (hashesTo made (target .blocks) (resultHash l (patching .hashes))) (alike refl refl refl refl) (alike refl refl refl refl))
     (alike refl refl refl refl))
     (alike refl refl refl refl))
-only-read l held hash (command.Stash set) a image f =
+unfinished-read l held hash (command.Stash set) a image f =
     rw (supplied-reads l (set .at) (set .blocks) (a .work) f)
     (alike-pick (hashesTo (supplied l (a .image) (set .at) (set .blocks) (a .work)) (set .blocks) hash)
     (alike refl refl refl refl)
     (alike refl refl refl refl))
-only-read l held hash command.Free a image f = alike refl refl refl refl
-only-read l held hash command.Unsupported a image f = alike refl refl refl refl
-only-read l held hash (command.Bad p) a image f = alike refl refl refl refl
+unfinished-read l held hash command.Free a image f = alike refl refl refl refl
+unfinished-read l held hash command.Unsupported a image f = alike refl refl refl refl
+unfinished-read l held hash (command.Bad p) a image f = alike refl refl refl refl
+
+pub only-read : OnlyRead
+unfolding effect
+only-read l held hash c a image f e =
+    rw e (alike-pick (isFinished l hash c (a .image)) (alike refl refl refl refl) (unfinished-read l held hash c a image f))
+
+-- ---- whether it is finished
+
+blocks-hash-reads : (bs hash : List ℕ) {a b : List ℕ} → SameIn (In bs) a b → blocksHashTo bs b hash ≡ blocksHashTo bs a hash
+unfolding blocksHashTo
+blocks-hash-reads bs hash f = rw (gathered-reads bs f)
+
+pub only-looked : OnlyLooked
+unfolding isFinished targetBlocks
+only-looked l hash (command.Zero set) image other f = refl
+only-looked l hash (command.Erase set) image other f = refl
+only-looked l hash (command.New set) image other f = refl
+only-looked l hash (command.Move target n source) image other f = blocks-hash-reads (blocksAt l (target .at)) hash f
+only-looked l hash (command.Bsdiff target n source) image other f =
+    blocks-hash-reads (blocksAt l (target .at)) (resultHash l (patchingOf l .hashes)) f
+only-looked l hash (command.Stash set) image other f = refl
+only-looked l hash command.Free image other f = refl
+only-looked l hash command.Unsupported image other f = refl
+only-looked l hash (command.Bad p) image other f = refl

@@ -1,6 +1,7 @@
 -- The table of samples holds: the lines are read by computation, and what they do to the areas is by the laws of rows.
 -- Assumes nothing.
 use mathlib.Core.Path.{_≡_, refl, sym, ap, _∙_}
+use mathlib.Core.Bool.{Bool, true, false}
 use mathlib.Core.List.{List, [], _∷_, _++_, append-assoc, append-nil}
 use Prim.Native.Nat.{ℕ}
 use native.Mathlib.Omega.{arith}
@@ -14,8 +15,8 @@ use Rattle.text.specs.Hash.{hashAt}
 use Rattle.text.specs.Hex.{hexOf}
 use Rattle.text.specs.declared.expected.Expected.the-variants as expected
 use Rattle.state.specs.Limits.{blockBytes}
-use Rattle.state.specs.Stashes.{findIn, isHeld, sizeAt, blocksHeld, without}
-use Rattle.state.proofs.StashLaws.{same-refl}
+use Rattle.state.specs.Stashes.{same, findIn, isHeld, sizeAt, blocksHeld, without}
+use Rattle.state.proofs.StashLaws.{same-refl, same-eq}
 use Rattle.command.specs.Words.{wordIn}
 use Rattle.command.specs.Fields.{numberField, hashField, setField, lastSet}
 use Rattle.command.specs.Parts.{partEnd, placesFrom, partAt, partsIn, partsAt, partsField, usesIn, usesAt}
@@ -27,8 +28,8 @@ use Rattle.rules.specs.Move.{sourcePast, sourceOver, usesBy, someMissing, stash
 use Rattle.rules.specs.Move.{placesBy, isIn, someMisplaced, sourcedRefusal, moveRefusal}
 use Rattle.rules.specs.Rules.{freeRefusal, refusalFor, refusalOf}
 use Rattle.updater.specs.Bytes.{zeroed, putBytes}
-use Rattle.updater.specs.Source.{stashBytes, spread, supplied, together, hashesTo, closedUp}
-use Rattle.updater.specs.Effect.{zeroEffect, moveEffect, freeEffect, effect}
+use Rattle.updater.specs.Source.{stashBytes, spread, supplied, together, hashesTo, blocksHashTo, closedUp}
+use Rattle.updater.specs.Effect.{zeroEffect, moveEffect, freeEffect, unfinishedEffect, isFinished, effect}
 use Rattle.sequence.specs.Samples.{text, Block, Digest, hex, bytesOf, Table, Samples}
 use Rattle.updater.proofs.NewLaws.{put-bytes-append}
 use Rattle.text.proofs.HexLaws.{hash-written}
@@ -57,6 +58,14 @@ hash-13 : (x : Digest) → hashAt (text "free " ++ hex x ++ text "\n") 5 ≡ rec
 hash-13 x = hash-written (text "free ") (x .bytes) (text "\n") 5 (x .whole) (x .each) refl
 
 -- ---- the table
+
+-- digests that are taken to differ
+same-not : {a b : List ℕ} → (a ≡ b → ⊥) → same a b ≡ false
+same-not {a} {b} d = go (same a b) refl
+  where
+    go : (t : Bool) → same a b ≡ t → t ≡ false
+    go true e = absurd (d (same-eq a b e))
+    go false e = refl
 
 -- the bytes of 11, block by block
 parted : (a b p d e f q r h : List ℕ) →
@@ -94,7 +103,7 @@ module _ (A B C D E F G H T1 T2 T3 W1 W2 W3 : Block) where
       rangesOf blocksAt AllBelow hexOf wordIn numberField hashField setField lastSet rangeLine withPlaces afterBlocks sourceFrom sourceField
       lengthFrom targetFrom freeFrom hashedLine commandOf partEnd placesFrom partAt partsIn partsAt partsField usesIn usesAt findIn isHeld sizeAt blocksHeld without sourcePast sourceOver usesBy someMissing stashBlocks
       someDiffer placesNamed sourceDiffers placesOf placesBy isIn someMisplaced sourcedRefusal moveRefusal freeRefusal refusalFor refusalOf stashBytes
-      faultOf faultByte spread supplied together closedUp hashesTo newTarget heldAfter zeroEffect moveEffect freeEffect effect pickedOf putAt zeroed
+      faultOf faultByte spread supplied together closedUp hashesTo newTarget heldAfter zeroEffect moveEffect freeEffect unfinishedEffect blocksHashTo isFinished effect pickedOf putAt zeroed
   table =
       record {
         case-1 = record { sized = record { end = 5; read = refl }; order = refl };
@@ -103,9 +112,11 @@ module _ (A B C D E F G H T1 T2 T3 W1 W2 W3 : Block) where
         case-4 = (refl, refl, refl, refl, refl);
         case-5 = (refl, refl);
         case-6 = (record { number = refl; byte = refl }, refl, record { number = refl; byte = refl }, refl);
-        case-7 = λ h s.
+        case-7 = λ h s d.
             rw (
               hash-7 h (text " 2,1,4 3 2,0,3\n"),
+              gathered-row (1 ∷ 2 ∷ 3 ∷ []) image (omega arith),
+              same-not d,
               gathered-row (0 ∷ 1 ∷ 2 ∷ []) image (omega arith),
               written-row (0 ∷ 1 ∷ 2 ∷ []) (A ∷ B ∷ C ∷ []) work (omega arith) refl,
               take-row 3 (A ∷ B ∷ C ∷ []),
@@ -113,9 +124,13 @@ module _ (A B C D E F G H T1 T2 T3 W1 W2 W3 : Block) where
               same-refl (h .bytes),
             )
             (written-row (1 ∷ 2 ∷ 3 ∷ []) (A ∷ B ∷ C ∷ []) image (omega arith) refl);
-        case-8 = λ h x S s.
+        case-7-finished = λ h s.
+            rw (hash-7 h (text " 2,1,4 3 2,0,3\n"), gathered-row (1 ∷ 2 ∷ 3 ∷ []) image (omega arith), s, same-refl (h .bytes));
+        case-8 = λ h x S s d.
             rw (hash-8 h x (text ":2,1,2\n"), stash-8 h x (text ":2,1,2\n"), stash-8 h x (text ":2,1,2\n"), same-refl (x .bytes))
             (rw (
+              gathered-row (5 ∷ 6 ∷ 7 ∷ []) image (omega arith),
+              same-not d,
               gathered-row (0 ∷ 1 ∷ []) image (omega arith),
               written-row (0 ∷ 2 ∷ []) (A ∷ B ∷ []) work (omega arith) refl,
               take-row 1 (S ∷ T2 ∷ T3 ∷ []),

@@ -1,5 +1,6 @@
--- Document 01, "The list text", "Putting a source together" and "The stash area", and document 02, R-4: which blocks of the lent areas the
--- lines of a text may change, and which blocks of the image a command reads. Demand: of the image only a command's target blocks change.
+-- Document 01, "The list text", "Putting a source together" and "The stash area", and document 02, R-4 and R-8: which blocks of the lent
+-- areas the lines of a text may change, and which blocks of the image a command reads. Demand: of the image only a command's target blocks
+-- change.
 -- Assumes nothing: these are definitions.
 use mathlib.Core.Path.{_≡_}
 use mathlib.Core.Bool.{true, false}
@@ -21,7 +22,7 @@ use Rattle.transfer_list.specs.Opening.{firstAt}
 use Rattle.transfer_list.specs.declared.header.HeaderRead.{HeaderRead}
 use Rattle.transfer_list.specs.declared.header.HeaderRead.the-variants.{Good, Bad}
 use Rattle.updater.specs.Areas.{Areas, withImage}
-use Rattle.updater.specs.Effect.{Effect, effect}
+use Rattle.updater.specs.Effect.{Effect, isFinished, effect}
 
 -- an area is as long as before, and its bytes in those blocks are as before
 pub record SameIn (blocks : ℕ → Type 0) (before after : List ℕ) : Type 0 where
@@ -81,6 +82,12 @@ pub record OnlyWritten (s : List ℕ) (last : ℕ) (before after : Areas) : Type
 
 -- ---- what a command reads
 
+-- whether a command is finished goes by its target blocks alone
+abbrev pub OnlyLooked : Type 0
+OnlyLooked =
+    (l hash : List ℕ) (c : Command) (image other : List ℕ) →
+    SameIn (λ b. isIn b (targetBlocks l c) ≡ true) image other → isFinished l hash c other ≡ isFinished l hash c image
+
 -- two effects leave the same stash, work and result area, and stop with the same number
 pub record SameButImage (x y : Effect) : Type 0 where
   pub stash : y .areas .stash ≡ x .areas .stash
@@ -88,10 +95,10 @@ pub record SameButImage (x y : Effect) : Type 0 where
   pub result : y .areas .result ≡ x .areas .result
   pub refusal : y .refusal ≡ x .refusal
 
--- of the image a command reads its source blocks alone: what it puts together, patches and stashes is the same over an image that is alike
--- there
+-- besides that, a command reads its source blocks alone, of the image: what it puts together, patches and stashes is the same over an image
+-- that is alike there, and where it is finished or not as before
 abbrev pub OnlyRead : Type 0
 OnlyRead =
     (l : List ℕ) (held : List Stash) (hash : List ℕ) (c : Command) (a : Areas) (image : List ℕ) →
-    SameIn (λ b. isIn b (sourceBlocks l c) ≡ true) (a .image) image →
+    SameIn (λ b. isIn b (sourceBlocks l c) ≡ true) (a .image) image → isFinished l hash c image ≡ isFinished l hash c (a .image) →
     SameButImage (effect l held hash c a) (effect l held hash c (withImage a image))

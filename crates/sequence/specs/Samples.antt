@@ -1,6 +1,6 @@
 -- Document 01, "Sample lists": cases 1 to 13, in one table. They are about the rules themselves: how range sets and lines are read, what a
 -- line is refused for, and what the model does with it. Document 02, R-7: 3 and 6 are refusals. In 7 and 8 the hash is taken to match,
--- whatever it is.
+-- whatever it is; R-8: and the target's to differ from it.
 -- Assumes nothing: these are definitions.
 use mathlib.Core.Path.{_≡_}
 use mathlib.Core.List.{List, [], _∷_, _++_}
@@ -26,7 +26,7 @@ use Rattle.rules.specs.declared.Terms.{Terms}
 use Rattle.state.specs.States.{noRefusal}
 use Rattle.transfer_list.specs.Header.{firstLine}
 use Rattle.updater.specs.Areas.{areasOf}
-use Rattle.sequence.specs.Model.{Model, doLine}
+use Rattle.sequence.specs.Model.{Model, doLine, lineEnds}
 
 -- the bytes of a text of plain characters
 abbrev pub text : String → List ℕ
@@ -131,10 +131,13 @@ module _ (A B C D E F G H T1 T2 T3 W1 W2 W3 : Block) where
         × IllFormedLine (text "zero 2,9,9\n") terms 10
         × (done (text "zero 2,9,9\n") start [] ≡ start)
     -- 7. `move` to `2,1,4` of `3 2,0,3`: A A B C E F G H.
-    pub case-7 : (h : Digest) → sha1 (bytesOf (A ∷ B ∷ C ∷ [])) ≡ h .bytes →
+    pub case-7 : (h : Digest) → sha1 (bytesOf (A ∷ B ∷ C ∷ [])) ≡ h .bytes → (sha1 (bytesOf (B ∷ C ∷ D ∷ [])) ≡ h .bytes → ⊥) →
         done (text "move " ++ hex h ++ text " 2,1,4 3 2,0,3\n") start [] .areas .image ≡ bytesOf (A ∷ A ∷ B ∷ C ∷ E ∷ F ∷ G ∷ H ∷ [])
+    -- .. and where the target has that hash, as after the line has run once: the line ends and nothing else changes, whatever the source.
+    pub case-7-finished : (h : Digest) → sha1 (bytesOf (B ∷ C ∷ D ∷ [])) ≡ h .bytes →
+        let l = text "move " ++ hex h ++ text " 2,1,4 3 2,0,3\n" in done l start [] ≡ lineEnds l start
     -- 8. Stash X is one block S. `move` to `2,5,8`, `3 2,0,2 4,0,1,2,3 X:2,1,2`: A B C D E A S B.
-    pub case-8 : (h x : Digest) (S : Block) → sha1 (bytesOf (A ∷ S ∷ B ∷ [])) ≡ h .bytes →
+    pub case-8 : (h x : Digest) (S : Block) → sha1 (bytesOf (A ∷ S ∷ B ∷ [])) ≡ h .bytes → (sha1 (bytesOf (F ∷ G ∷ H ∷ [])) ≡ h .bytes → ⊥) →
         done (text "move " ++ hex h ++ text " 2,5,8 3 2,0,2 4,0,1,2,3 " ++ hex x ++ text ":2,1,2\n")
         (holding (S ∷ T2 ∷ T3 ∷ []) (stashOf x 1 ∷ [])) [] .areas .image
         ≡ bytesOf (A ∷ B ∷ C ∷ D ∷ E ∷ A ∷ S ∷ B ∷ [])

@@ -28,9 +28,10 @@ use Rattle.updater.specs.Areas.{Areas, withImage, withStash, withWork, w
 use Rattle.copy.specs.Over.{over}
 use Rattle.copy.proofs.OverLaws.{length-over}
 use Rattle.updater.specs.Bytes.{zeroed, written, movedDown}
-use Rattle.updater.specs.Source.{stashStart, supplied, together, hashesTo, closedUp}
+use Rattle.updater.specs.Source.{stashStart, supplied, together, hashesTo, blocksHashTo, closedUp}
 use Rattle.updater.specs.Effect.{Effect, effectOf, done, InRun, verified, zeroEffect, targetWritten, moveEffect, stashWritten}
-use Rattle.updater.specs.Effect.{patchOf, resultMade, resultEffect, patchEffect, bsdiffEffect, stashEffect, closedFound, freeEffect, effect}
+use Rattle.updater.specs.Effect.{patchOf, resultMade, resultEffect, patchEffect, bsdiffEffect, stashEffect, closedFound, freeEffect, unfinishedEffect}
+use Rattle.updater.specs.Effect.{isFinished, effect}
 use Rattle.updater.specs.Runnable.{Keeps, InImage, MoveRuns, PatchRuns, BsdiffRuns, StashRuns, Runnable}
 use Rattle.updater.proofs.ByteLaws.{length-zeroed, length-written, length-moved-down}
 use Rattle.updater.proofs.SourceLaws.{length-supplied, length-together}
@@ -124,43 +125,66 @@ module _ (xs : List Stash) (stash : List ℕ) {f : Found} where
 
 -- ---- the effect of a command is that of its kind
 
+module _ (l : List ℕ) (xs : List Stash) (hash : List ℕ) (a : Areas) where
+  -- one that is finished changes nothing
+  effect-finished : (c : Command) → isFinished l hash c (a .image) ≡ true → effectOf a none ≡ effect l xs hash c a
+  unfolding effect
+  effect-finished c e = rw e
+
+  effect-unfinished : (c : Command) → isFinished l hash c (a .image) ≡ false → {x : Effect} → x ≡ unfinishedEffect l xs hash c a →
+      x ≡ effect l xs hash c a
+  unfolding effect
+  effect-unfinished c e f = rw e f
+
+  -- by what the blocks of the target hash to
+  module _ (target : RangeSet) (n : ℕ) (source : Source) {found : Bool} where
+    module _ (is : found ≡ blocksHashTo (blocksAt l (target .at)) (a .image) hash) where
+      pub move-finished : found ≡ true → effectOf a none ≡ effect l xs hash (command.Move target n source) a
+      unfolding isFinished
+      move-finished e = effect-finished (command.Move target n source) (sym is ∙ e)
+
+      pub move-unfinished : found ≡ false → {x : Effect} → x ≡ moveEffect l xs hash target n source a →
+          x ≡ effect l xs hash (command.Move target n source) a
+      unfolding isFinished unfinishedEffect
+      move-unfinished e f = effect-unfinished (command.Move target n source) (sym is ∙ e) f
+
+    module _ (is : found ≡ blocksHashTo (blocksAt l (target .at)) (a .image) (resultHash l (patchingOf l .hashes))) where
+      pub bsdiff-finished : found ≡ true → effectOf a none ≡ effect l xs hash (command.Bsdiff target n source) a
+      unfolding isFinished
+      bsdiff-finished e = effect-finished (command.Bsdiff target n source) (sym is ∙ e)
+
+      pub bsdiff-unfinished : found ≡ false → {x : Effect} → x ≡ bsdiffEffect l xs hash target n source a →
+          x ≡ effect l xs hash (command.Bsdiff target n source) a
+      unfolding isFinished unfinishedEffect
+      bsdiff-unfinished e f = effect-unfinished (command.Bsdiff target n source) (sym is ∙ e) f
+
 module _ (l : List ℕ) (xs : List Stash) (hash : List ℕ) (a : Areas) {c : Command} where
   pub effect-zero : {set : RangeSet} → c ≡ command.Zero set → effect l xs hash c a ≡ zeroEffect l set a
-  unfolding effect
+  unfolding effect isFinished unfinishedEffect
   effect-zero e = rw e
 
   pub effect-erase : {set : RangeSet} → c ≡ command.Erase set → effect l xs hash c a ≡ zeroEffect l set a
-  unfolding effect
+  unfolding effect isFinished unfinishedEffect
   effect-erase e = rw e
 
   pub effect-new : {set : RangeSet} → c ≡ command.New set → effect l xs hash c a ≡ effectOf a none
-  unfolding effect
+  unfolding effect isFinished unfinishedEffect
   effect-new e = rw e
 
-  pub effect-move : {target : RangeSet} {n : ℕ} {source : Source} → c ≡ command.Move target n source →
-      effect l xs hash c a ≡ moveEffect l xs hash target n source a
-  unfolding effect
-  effect-move e = rw e
-
-  pub effect-bsdiff : {target : RangeSet} {n : ℕ} {source : Source} → c ≡ command.Bsdiff target n source →
-      effect l xs hash c a ≡ bsdiffEffect l xs hash target n source a
-  unfolding effect
-  effect-bsdiff e = rw e
-
   pub effect-stash : {set : RangeSet} → c ≡ command.Stash set → effect l xs hash c a ≡ stashEffect l xs hash set a
-  unfolding effect
+  unfolding effect isFinished unfinishedEffect
   effect-stash e = rw e
 
   pub effect-free : c ≡ command.Free → effect l xs hash c a ≡ freeEffect xs hash a
-  unfolding effect
+  unfolding effect isFinished unfinishedEffect
   effect-free e = rw e
 
   pub effect-unsupported : c ≡ command.Unsupported → effect l xs hash c a ≡ effectOf a none
-  unfolding effect
+  unfolding effect isFinished unfinishedEffect
   effect-unsupported e = rw e
 
   pub effect-bad : {p : ℕ} → c ≡ command.Bad p → effect l xs hash c a ≡ effectOf a none
-  unfolding effect
+  unfolding effect isFinished unfinishedEffect
   effect-bad e = rw e
 
 -- what each rests on
@@ -304,17 +328,24 @@ module _ (l : List ℕ) (xs : List Stash) (hash : List ℕ) (a : Areas) where
       (lengths-then (work-lengths a w) (patch-lengths l (withWork a work) (patchingOf l) target n (patch-over (h .patched) w)))
       (work-lengths a w)
 
+  unfinished-lengths : (c : Command) → Keeps xs (a .stash) → Runnable l xs a c → SameLengths a (unfinishedEffect l xs hash c a .areas)
+  unfolding unfinishedEffect Runnable
+  unfinished-lengths (command.Zero set) k h = zero-lengths set h
+  unfinished-lengths (command.Erase set) k h = zero-lengths set h
+  unfinished-lengths (command.New set) k h = lengths-refl a
+  unfinished-lengths (command.Move target n source) k h = move-lengths target n source k h
+  unfinished-lengths (command.Bsdiff target n source) k h = bsdiff-lengths target n source k h
+  unfinished-lengths (command.Stash set) k h = stash-lengths set h
+  unfinished-lengths command.Free k h = free-lengths k
+  unfinished-lengths command.Unsupported k h = lengths-refl a
+  unfinished-lengths (command.Bad p) k h = lengths-refl a
+
   pub effect-lengths : (c : Command) → Keeps xs (a .stash) → Runnable l xs a c → SameLengths a (effect l xs hash c a .areas)
-  unfolding effect Runnable
-  effect-lengths (command.Zero set) k h = zero-lengths set h
-  effect-lengths (command.Erase set) k h = zero-lengths set h
-  effect-lengths (command.New set) k h = lengths-refl a
-  effect-lengths (command.Move target n source) k h = move-lengths target n source k h
-  effect-lengths (command.Bsdiff target n source) k h = bsdiff-lengths target n source k h
-  effect-lengths (command.Stash set) k h = stash-lengths set h
-  effect-lengths command.Free k h = free-lengths k
-  effect-lengths command.Unsupported k h = lengths-refl a
-  effect-lengths (command.Bad p) k h = lengths-refl a
+  unfolding effect
+  effect-lengths c k h =
+      picks (λ (x : Effect). SameLengths a (x .areas)) (isFinished l hash c (a .image)) _ _
+      (λ e. lengths-refl a)
+      (λ e. unfinished-lengths c k h)
 
 -- ---- a command is done, a hash differs, or a patch is malformed
 
@@ -340,16 +371,21 @@ patch-stops l patching target n a =
     (λ h. inl refl) (λ h. inr (inl refl)))
     (λ g. inr (inr refl))
 
+unfinished-stops : (l : List ℕ) (xs : List Stash) (hash : List ℕ) (c : Command) (a : Areas) → Stops (unfinishedEffect l xs hash c a)
+unfolding unfinishedEffect zeroEffect moveEffect bsdiffEffect stashEffect freeEffect
+unfinished-stops l xs hash (command.Zero set) a = inl refl
+unfinished-stops l xs hash (command.Erase set) a = inl refl
+unfinished-stops l xs hash (command.New set) a = inl refl
+unfinished-stops l xs hash (command.Move target n source) a = verified-stops n hash (done (targetWritten l target n)) _ (inl refl)
+unfinished-stops l xs hash (command.Bsdiff target n source) a =
+    verified-stops n hash (patchEffect l (patchingOf l) target n) _ (patch-stops l (patchingOf l) target n _)
+unfinished-stops l xs hash (command.Stash set) a = verified-stops (set .blocks) hash (done (stashWritten xs (set .blocks))) _ (inl refl)
+unfinished-stops l xs hash command.Free a = inl refl
+unfinished-stops l xs hash command.Unsupported a = inl refl
+unfinished-stops l xs hash (command.Bad p) a = inl refl
+
 pub effect-refusal : (l : List ℕ) (xs : List Stash) (hash : List ℕ) (c : Command) (a : Areas) →
     (effect l xs hash c a .refusal ≡ none) ⊎ InRun (effect l xs hash c a .refusal)
-unfolding effect zeroEffect moveEffect bsdiffEffect stashEffect freeEffect
-effect-refusal l xs hash (command.Zero set) a = inl refl
-effect-refusal l xs hash (command.Erase set) a = inl refl
-effect-refusal l xs hash (command.New set) a = inl refl
-effect-refusal l xs hash (command.Move target n source) a = verified-stops n hash (done (targetWritten l target n)) _ (inl refl)
-effect-refusal l xs hash (command.Bsdiff target n source) a =
-    verified-stops n hash (patchEffect l (patchingOf l) target n) _ (patch-stops l (patchingOf l) target n _)
-effect-refusal l xs hash (command.Stash set) a = verified-stops (set .blocks) hash (done (stashWritten xs (set .blocks))) _ (inl refl)
-effect-refusal l xs hash command.Free a = inl refl
-effect-refusal l xs hash command.Unsupported a = inl refl
-effect-refusal l xs hash (command.Bad p) a = inl refl
+unfolding effect
+effect-refusal l xs hash c a =
+    picks Stops (isFinished l hash c (a .image)) _ _ (λ e. inl refl) (λ e. unfinished-stops l xs hash c a)

@@ -1,4 +1,5 @@
 pub mod ByteLaws
+pub mod DigestLaws
 pub mod NewLaws
 pub mod SourceLaws
 pub mod EffectLaws

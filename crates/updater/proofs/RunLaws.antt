@@ -32,7 +32,7 @@ use Rattle.rules.specs.declared.Checked.{Checked}
 use Rattle.machine.proofs.LoopLaws.{puts, Same, Ends, by-quiet, by-puts, at-stop, at-end}
 use Rattle.updater.specs.Areas.{Areas, withImage}
 use Rattle.updater.specs.Bytes.{putBytes}
-use Rattle.updater.specs.Effect.{Effect, effectOf, effect}
+use Rattle.updater.specs.Effect.{Effect, effectOf, unfinishedEffect, isFinished, effect}
 use Rattle.updater.specs.Steps.{Config, configOf, passed, refusedWith, furtherInto, stateAfter, after}
 use Rattle.updater.specs.Runnable.{InImage, Runnable}
 use Rattle.updater.specs.Run.{currentLine, currentCommand, refusalHere, refusedAt, quietStep, newBlocks, newBytes, isStopped, machine}
@@ -243,7 +243,7 @@ module _ {s piece l : List ℕ} {terms : Terms} {p₀ p : Config} {i : ℕ} {che
       pub fills : set .blocks ≤ (p .state .into + (r - i)) / blockBytes →
           Turned s terms piece p₀ p
           (configOf (withImage (p .areas) image) (withCursor (p .state) (p .state .line + 1) (p .state .at + length l) 0)) r
-      unfolding furtherInto mid after effect stateAfter tableAfter passed
+      unfolding furtherInto mid after effect isFinished unfinishedEffect stateAfter tableAfter passed
       fills h =
           let b = new-bytes in
           let k : configOf (withImage (p .areas) image) (withCursor (p .state) (p .state .line + 1) (p .state .at + length l) 0)

@@ -1,7 +1,8 @@
--- Document 01, "The list text", "Putting a source together" and "The stash area", and document 02, R-4: what each command does to the lent
--- areas, given the stashes that are held. A call and the model both go by `effect`.
+-- Document 01, "The list text", "Putting a source together" and "The stash area", and document 02, R-4 and R-8: what each command does to
+-- the lent areas, given the stashes that are held. A call and the model both go by `effect`.
 -- Assumes nothing: these are definitions.
 use Prim.Native.Nat.{ℕ, _*_}
+use mathlib.Core.Bool.{Bool, false}
 use mathlib.Core.List.{List}
 use mathlib.Core.Path.{_≡_}
 use mathlib.Core.Logic.{_⊎_}
@@ -23,7 +24,7 @@ use Rattle.patch.specs.Patch.{isPatch, patchedBy}
 use Rattle.updater.specs.Areas.{Areas, withImage, withStash, withWork, withResult}
 use Rattle.copy.specs.Over.{over}
 use Rattle.updater.specs.Bytes.{zeroed, written}
-use Rattle.updater.specs.Source.{supplied, together, closedUp, hashesTo}
+use Rattle.updater.specs.Source.{supplied, together, closedUp, hashesTo, blocksHashTo}
 
 -- the areas that a command leaves, and the number that it stops with, none where it is done
 pub record Effect : Type 0 where
@@ -109,15 +110,32 @@ closedFound held stash Nothing = stash
 unfoldable pub freeEffect : List Stash → List ℕ → Areas → Effect
 freeEffect held hash a = effectOf (withStash a (closedFound held (a .stash) (findIn held hash))) none
 
--- a command with its hash, on the line l. The bytes of a `new` go to R one by one (`putByte`), so that nothing is left to do here; a line
--- that is unsupported or bad is refused and does not run
+-- a command that is not finished, with its hash, on the line l. The bytes of a `new` go to R one by one (`putByte`), so that nothing is left to
+-- do here; a line that is unsupported or bad is refused and does not run
+unfoldable pub unfinishedEffect : List ℕ → List Stash → List ℕ → Command → Areas → Effect
+unfinishedEffect l held hash (command.Zero set) a = zeroEffect l set a
+unfinishedEffect l held hash (command.Erase set) a = zeroEffect l set a
+unfinishedEffect l held hash (command.New set) a = effectOf a none
+unfinishedEffect l held hash (command.Move target n source) a = moveEffect l held hash target n source a
+unfinishedEffect l held hash (command.Bsdiff target n source) a = bsdiffEffect l held hash target n source a
+unfinishedEffect l held hash (command.Stash set) a = stashEffect l held hash set a
+unfinishedEffect l held hash command.Free a = freeEffect held hash a
+unfinishedEffect l held hash command.Unsupported a = effectOf a none
+unfinishedEffect l held hash (command.Bad p) a = effectOf a none
+
+-- document 02, R-8: the target already holds the result. The blocks of R in the written order, one that is named twice taken twice, hash to
+-- H of a `move`, to T of a `bsdiff`; no other command is finished before it runs
+unfoldable pub isFinished : List ℕ → List ℕ → Command → List ℕ → Bool
+isFinished l hash (command.Zero set) image = false
+isFinished l hash (command.Erase set) image = false
+isFinished l hash (command.New set) image = false
+isFinished l hash (command.Move target n source) image = blocksHashTo (blocksAt l (target .at)) image hash
+isFinished l hash (command.Bsdiff target n source) image = blocksHashTo (blocksAt l (target .at)) image (resultHash l (patchingOf l .hashes))
+isFinished l hash (command.Stash set) image = false
+isFinished l hash command.Free image = false
+isFinished l hash command.Unsupported image = false
+isFinished l hash (command.Bad p) image = false
+
+-- what a command does: one that is finished reads no source and writes nothing, the work area neither
 unfoldable pub effect : List ℕ → List Stash → List ℕ → Command → Areas → Effect
-effect l held hash (command.Zero set) a = zeroEffect l set a
-effect l held hash (command.Erase set) a = zeroEffect l set a
-effect l held hash (command.New set) a = effectOf a none
-effect l held hash (command.Move target n source) a = moveEffect l held hash target n source a
-effect l held hash (command.Bsdiff target n source) a = bsdiffEffect l held hash target n source a
-effect l held hash (command.Stash set) a = stashEffect l held hash set a
-effect l held hash command.Free a = freeEffect held hash a
-effect l held hash command.Unsupported a = effectOf a none
-effect l held hash (command.Bad p) a = effectOf a none
+effect l held hash c a = pick (isFinished l hash c (a .image)) (effectOf a none) (unfinishedEffect l held hash c a)

@@ -50,6 +50,10 @@ together l image stash held (Both set places first) work =
 unfoldable pub hashesTo : List ℕ → ℕ → List ℕ → Bool
 hashesTo area n hash = same (sha1 (take (blockBytes * n) area)) hash
 
+-- blocks of an area, joined in the order named, hash to a hash
+unfoldable pub blocksHashTo : List ℕ → List ℕ → List ℕ → Bool
+blocksHashTo bs area hash = same (sha1 (gathered bs area)) hash
+
 -- the stash area without stash j: the younger ones move down over the gap
 unfoldable pub closedUp : List Stash → ℕ → List ℕ → List ℕ
 closedUp held j stash =

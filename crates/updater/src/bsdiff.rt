@@ -6,12 +6,14 @@ ghost use lib.ListN.{length, take, drop};
 ghost use Rattle.text.specs.Choice.{pick};
 ghost use Rattle.state.specs.Limits.{blockBytes};
 ghost use Rattle.state.specs.Stashes.{tableAt, heldIn};
+ghost use Rattle.command.specs.declared.Command.the-variants.{Bsdiff};
 ghost use Rattle.copy.specs.Over.{over};
 ghost use Rattle.patch.specs.Patch.{isPatch, patchedBy};
 ghost use Rattle.updater.specs.Areas.{areasOf};
-ghost use Rattle.updater.specs.Effect.{effectOf, resultEffect, patchEffect, bsdiffEffect};
+ghost use Rattle.updater.specs.Effect.{effectOf, resultEffect, patchEffect, effect};
 ghost use Rattle.updater.specs.Runnable.{Keeps, InImage, PatchRuns, BsdiffRuns};
 use crate::digest::has_hash;
+use crate::digest::set_has_hash;
 use crate::sets::write_set;
 use crate::source::put_together;
 use command::patching::Patching;
@@ -93,6 +95,7 @@ fn patch_source(
     write_result(image, &*result, l, patching, target)
 }
 
+// A target that already has the digest T is left as it is, and so are the work and the result area.
 pub(crate) fn run_bsdiff(
     image: &mut [u8],
     stash: &[u8],
@@ -112,13 +115,17 @@ pub(crate) fn run_bsdiff(
     requires { ⌜ BsdiffRuns (now l) (heldIn (tableAt (now hashes) (now sizes) count))
         (areasOf (now image) (now stash) (now work) (now result) (now patch)) target n source ⌝ }
     ensures { λ r. ⌜ effectOf (areasOf (now (image .exit)) (now (stash .entry)) (now (work .exit)) (now (result .exit)) (now (patch .entry))) r
-        ≡ bsdiffEffect (now (l .entry)) (heldIn (tableAt (now (hashes .entry)) (now (sizes .entry)) count)) hash target n source
+        ≡ effect (now (l .entry)) (heldIn (tableAt (now (hashes .entry)) (now (sizes .entry)) count)) hash (Bsdiff target n source)
         (areasOf (now (image .entry)) (now (stash .entry)) (now (work .entry)) (now (result .entry)) (now (patch .entry))) ⌝ }
 {
+    let patching = read_patching(l);
+    let wanted = read_result_hash(l, patching.hashes);
+    if set_has_hash(&*image, l, target.at, wanted) {
+        return 0;
+    }
     put_together(&*image, stash, work, l, hashes, sizes, count, source);
     if !has_hash(&*work, n, hash) {
         return HASH_DIFFERS;
     }
-    let patching = read_patching(l);
     patch_source(image, &*work, result, patch, l, patching, target, n)
 }

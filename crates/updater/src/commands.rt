@@ -3,13 +3,15 @@ ghost use mathlib.Core.Path.{_≡_};
 ghost use mathlib.Core.List.{List};
 ghost use Prim.Native.Nat.{ℕ};
 ghost use Rattle.state.specs.Stashes.{tableAt, heldIn, findIn};
+ghost use Rattle.command.specs.declared.Command.the-variants.{Move};
 ghost use Rattle.updater.specs.Areas.{areasOf};
-ghost use Rattle.updater.specs.Effect.{effectOf, moveEffect, stashEffect, closedFound, effect};
+ghost use Rattle.updater.specs.Effect.{effectOf, stashEffect, closedFound, effect};
 ghost use Rattle.updater.specs.Runnable.{Keeps, MoveRuns, StashRuns, Runnable};
 use crate::areas::copy_over;
 use crate::areas::move_down;
 use crate::bsdiff::run_bsdiff;
 use crate::digest::has_hash;
+use crate::digest::set_has_hash;
 use crate::sets::write_set;
 use crate::sets::zero_set;
 use crate::source::put_together;
@@ -28,6 +30,7 @@ use state::stashes::blocks_before;
 use state::stashes::find_stash;
 use state::stashes::stash_blocks;
 
+// A target that already has the hash is left as it is, and so is the work area.
 fn run_move(
     image: &mut [u8],
     stash: &[u8],
@@ -44,9 +47,12 @@ fn run_move(
     requires { ⌜ Keeps (heldIn (tableAt (now hashes) (now sizes) count)) (now stash) ⌝ }
     requires { ⌜ MoveRuns (now l) (heldIn (tableAt (now hashes) (now sizes) count)) (now image) (now work) target n source ⌝ }
     ensures { λ r. ⌜ ((result patch : List ℕ) → effectOf (areasOf (now (image .exit)) (now (stash .entry)) (now (work .exit)) result patch) r
-        ≡ moveEffect (now (l .entry)) (heldIn (tableAt (now (hashes .entry)) (now (sizes .entry)) count)) hash target n source
+        ≡ effect (now (l .entry)) (heldIn (tableAt (now (hashes .entry)) (now (sizes .entry)) count)) hash (Move target n source)
         (areasOf (now (image .entry)) (now (stash .entry)) (now (work .entry)) result patch)) ⌝ }
 {
+    if set_has_hash(&*image, l, target.at, hash) {
+        return 0;
+    }
     put_together(&*image, stash, work, l, hashes, sizes, count, source);
     if !has_hash(&*work, n, hash) {
         return HASH_DIFFERS;

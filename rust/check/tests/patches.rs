@@ -311,7 +311,7 @@ fn targets_and_sources() {
     let bytes = patch.len();
     let [a, ab, bc, cd] = ["A", "AB", "BC", "CD"].map(name);
     for (what, total, lines, areas) in [
-        ("a target over its source", 2, format!("bsdiff 0 {bytes} {ab} {bc} 2,1,3 2 2,0,2\n"), ["ABCDEFGH", "xyz", "ABw", "BCt"]),
+        ("a target over its source", 2, format!("bsdiff 0 {bytes} {bc} {cd} 2,0,2 2 2,1,3\n"), ["CDCDEFGH", "xyz", "BCw", "CDt"]),
         ("a block twice", 2, format!("bsdiff 0 {bytes} {ab} {bc} 4,6,7,6,7 2 2,0,2\n"), ["ABCDEFCH", "xyz", "ABw", "BCt"]),
         ("a source backwards", 2, format!("bsdiff 0 {bytes} {} {} 2,4,6 2 4,1,2,0,1\n", name("BA"), name("CB")), ["ABCDCBGH", "xyz", "BAw", "CBt"]),
         // One after the other, the second from what the first wrote.
@@ -478,7 +478,7 @@ fn new_data_around_patches() {
 #[test]
 fn what_changed_since_opening() {
     let patch = patch_of(&[record(&ONE_MORE, b"", 0)]);
-    let list = format!("3\n2\n0\n0\nnew 2,7,8\nbsdiff 0 {} {} {} 2,1,2 1 2,0,1\n", patch.len(), name("A"), name("B"));
+    let list = format!("3\n2\n0\n0\nnew 2,7,8\nbsdiff 0 {} {} {} 2,2,3 1 2,0,1\n", patch.len(), name("A"), name("B"));
     let untouched = ["ABCDEFGH", "xyz", "uvw", "rst"];
     for on in all() {
         let mut lent = Lent::with_patch(&list, &patch);

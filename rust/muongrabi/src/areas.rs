@@ -19,9 +19,9 @@ pub struct Lengths {
 
 /// What is lent beside the list: the areas that a run writes, and the patch data, which it reads.
 ///
-/// A list without `bsdiff` needs neither result area nor patch data: both may be empty. A `bsdiff` makes its target of a source by a patch: not
-/// a file that bsdiff wrote, but its control triples and bytes unpacked, as records to the patch's end. Each is the bytes 0x43 0x50; add length,
-/// extra length and seek, eight bytes each as bsdiff has them; the bytes to add to the source's; the extra bytes.
+/// A list without `bsdiff` needs neither result area nor patch data: both may be empty. A `bsdiff` whose target does not have its result yet makes
+/// it of a source by a patch: not a file that bsdiff wrote, but its control triples and bytes unpacked, as records to the patch's end. Each is the
+/// bytes 0x43 0x50; add length, extra length and seek, eight bytes each as bsdiff has them; the bytes to add to the source's; the extra bytes.
 ///
 /// ```
 /// use muongrabi::{digest, Areas, Outcome, Updater, BLOCK};

@@ -1,6 +1,7 @@
 //! A block updater: it opens an Android transfer list of version 3 and runs it over a lent image while the new data arrives in pieces of
-//! any size. After a dropped connection it goes on from the state it left, and a source that does not have its hash, or a patch whose result
-//! does not have its own, stops the run before a byte of the target is written.
+//! any size. After a dropped connection it goes on from the state it left. A `move` or `bsdiff` whose target already has the result is passed over;
+//! of any other line, a source that does not have its hash, or a patch whose result does not have its own, stops the run before a byte of the target
+//! is written.
 //!
 //! This crate is the safe face of a library that is proved: any bytes as list, data, patch, state or sparse file get an answer; a list opens
 //! exactly when it meets the rules, and then does what they say, in order; and however the new data is cut into pieces, what stands after the
@@ -124,6 +125,30 @@ pub fn open(list: &[u8], lengths: Lengths) -> Result<State, Refusal> {
 /// let second = call(list, areas.reborrow(), &[7; 4_000], &mut state);
 /// assert_eq!(second, Called { outcome: Outcome::Done, taken: 96 });
 /// # Ok::<(), muongrabi::Refusal>(())
+/// ```
+///
+/// # Finished lines
+///
+/// Of a `move` or `bsdiff` the target's blocks are hashed first, as they stand in the image and in the order in which the line names them. Where
+/// that is the move's hash, or the hash of the bsdiff's result, the line is finished: no source and no patch is read, image, stash, work and result
+/// area stay as they are, and the state goes to the next line. The line is checked before that as any other. All other commands are always done.
+///
+/// So a list that is run again from its top over an image that it has updated passes over the lines that are finished. In general that is still
+/// not safe: a later line may have changed a block that an earlier one needs, and what a `stash` names may be gone. After a cut go on from the
+/// state.
+///
+/// ```
+/// use muongrabi::{digest, run, Areas, Outcome, BLOCK};
+///
+/// // Moves blocks 0 and 1 one on. The second run finds them there; their source is no longer what it was.
+/// let hash: String = digest(&[[b'a'; BLOCK], [b'b'; BLOCK]].concat()).iter().map(|byte| format!("{byte:02x}")).collect();
+/// let list = format!("3\n2\n0\n0\nmove {hash} 2,1,3 2 2,0,2\n");
+/// let mut image = [[b'a'; BLOCK], [b'b'; BLOCK], [b'c'; BLOCK]].concat();
+/// for _ in 0..2 {
+///     let areas = Areas { image: &mut image, stash: &mut [], work: &mut [0; 2 * BLOCK], result: &mut [], patch: &[] };
+///     assert_eq!(run(list.as_bytes(), areas, &[], &[]).0.outcome, Outcome::Done);
+///     assert_eq!(image, [[b'a'; BLOCK], [b'a'; BLOCK], [b'b'; BLOCK]].concat());
+/// }
 /// ```
 pub fn call(list: &[u8], areas: Areas<'_>, piece: &[u8], state: &mut State) -> Called {
     Called::of(&exports::call(list, areas, piece, &mut state.raw))

@@ -44,13 +44,13 @@ impl Refusal {
     pub const NO_ROOM: usize = 14;
     /// All `new`, `zero`, `move` and `bsdiff` targets together differ from line 2.
     pub const TOTAL_DIFFERS: usize = 15;
-    /// In a run: the SHA-1 of a source, or of a patch's result, is not the one in the list.
+    /// In a run: the SHA-1 of a source that is read, or of a patch's result, is not the one in the list.
     pub const HASH_DIFFERS: usize = 16;
     /// In a call: the state is impossible, or the length of the list, of an area or of the patch data changed.
     pub const STATE_IMPOSSIBLE: usize = 17;
     /// The offset and length of a `bsdiff`'s patch pass the end of the patch data.
     pub const PAST_PATCH: usize = 18;
-    /// In a run: a patch is malformed, or its result is not as long as the target.
+    /// In a run: a patch that is read is malformed, or its result is not as long as the target.
     pub const PATCH_MALFORMED: usize = 19;
     /// A sparse file's header is cut short, or its mark or major version is another.
     pub const SPARSE_HEADER: usize = 30;

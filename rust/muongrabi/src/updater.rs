@@ -22,7 +22,7 @@ impl<'a> Updater<'a> {
 
     /// Goes on where an earlier run stood: with its list, its areas as it left them, and its state. A state that is impossible with this
     /// list, or other lengths, are refused by the first write (17). That the bytes are those of the earlier run nobody checks: keep them
-    /// together.
+    /// together. To open the list anew instead is not safe in general, though [finished lines](crate::call#finished-lines) are passed over.
     pub fn resume(list: &'a [u8], areas: Areas<'a>, state: State) -> Updater<'a> {
         Updater { list, areas, state, taken: 0 }
     }

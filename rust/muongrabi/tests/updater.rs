@@ -269,6 +269,66 @@ fn patches_are_refused_as_they_are() {
     }
 }
 
+/// The image that was left, with all else that is lent as it was at first.
+fn lent_anew(image: Vec<u8>) -> Lent {
+    Lent { image, ..Lent::new() }
+}
+
+#[test]
+fn a_list_whose_lines_are_finished_changes_nothing() {
+    let [a, bcd, f, g] = ["A", "BCD", "F", "G"].map(name);
+    // A move over its own source, another, and a patch in its own place: no two targets share a block.
+    let list = format!("3\n5\n0\n0\nmove {bcd} 2,2,5 3 2,1,4\nmove {a} 2,6,7 1 2,0,1\nbsdiff 3 {} {f} {g} 2,5,6 1 2,5,6\n", BLOCK + 26);
+    let mut lent = Lent::new();
+    assert_eq!(Updater::open(list.as_bytes(), lent.areas()).expect("a good list").write(&[]), Outcome::Done);
+    assert_eq!(lent.letters(), ["ABBCDGAH", "x", "FCD", "Gs"]);
+    // Once more from the top, with its patch and with other bytes in that place.
+    let mut lent = lent_anew(lent.image);
+    for _ in 0..2 {
+        let mut updater = Updater::open(list.as_bytes(), lent.areas()).expect("a good list");
+        assert_eq!(updater.write(b"data"), Outcome::Done);
+        assert_eq!((updater.taken(), updater.state().line(), updater.state().at()), (0, 8, list.len()));
+        assert_eq!(lent.letters(), ["ABBCDGAH", "x", "uvw", "rs"]);
+        lent.patch.fill(0);
+    }
+    // Where one block is another, its line runs.
+    lent.image[3 * BLOCK..4 * BLOCK].fill(b'Z');
+    let outcome = Updater::open(list.as_bytes(), lent.areas()).expect("a good list").write(&[]);
+    assert_eq!(outcome, Outcome::Refused(Refusal::new(Refusal::HASH_DIFFERS, 5, 0)));
+    assert_eq!(lent.letters(), ["ABBZDGAH", "x", "BBZ", "rs"]);
+}
+
+#[test]
+fn a_move_over_its_own_source_runs_twice() {
+    let list = format!("3\n3\n0\n0\nmove {} 2,1,4 3 2,0,3\n", name("ABC"));
+    let mut lent = Lent::new();
+    for work in ["ABC", "uvw"] {
+        assert_eq!(run(list.as_bytes(), lent.areas(), &[], &[]).0, Called { outcome: Outcome::Done, taken: 0 });
+        assert_eq!(lent.letters(), ["AABCEFGH", "x", work, "rs"]);
+        lent = lent_anew(lent.image);
+    }
+}
+
+#[test]
+fn a_finished_line_is_refused_as_any_other() {
+    let [a, b, abcd] = ["A", "B", "ABCD"].map(name);
+    for (list, number) in [
+        (format!("3\n1\n0\n0\nmove {a} 2,0,1 1 2,8,9\n"), Refusal::PAST_IMAGE),
+        (format!("3\n4\n0\n0\nmove {abcd} 2,0,4 4 2,0,4\n"), Refusal::PAST_AREA),
+        (format!("3\n1\n0\n0\nmove {a} 2,0,1 1 - {a}:2,0,1\n"), Refusal::NOT_HELD),
+        (format!("3\n1\n0\n0\nbsdiff 3 {} {a} {b} 2,1,2 1 2,0,1\n", BLOCK + 27), Refusal::PAST_PATCH),
+    ] {
+        // In a call the line is checked again, before its target is looked at.
+        let mut lent = Lent::new();
+        let mut fields = open(b"3\n0\n0\n0\n", lent.areas().lengths()).expect("a good list").fields();
+        fields.list = list.len();
+        let refusal = Refusal::new(number, 5, 0);
+        assert_eq!(open(list.as_bytes(), fields.lengths), Err(refusal));
+        assert_eq!(call(list.as_bytes(), lent.areas(), &[], &mut State::from(&fields)).outcome, Outcome::Refused(refusal));
+        assert_eq!(lent.letters(), ["ABCDEFGH", "x", "uvw", "rs"]);
+    }
+}
+
 #[test]
 fn outcomes_in_words() {
     assert_eq!(Outcome::Done.to_string(), "done");

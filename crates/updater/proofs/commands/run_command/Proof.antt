@@ -4,7 +4,7 @@ use mathlib.Core.List.{List}
 use borrow.Author.Needs.{needs}
 use Rattle.state.specs.Stashes.{Stash, tableAt, heldIn}
 use Rattle.updater.specs.Areas.{Areas, areasOf}
-use Rattle.updater.proofs.EffectLaws.{zero-done, free-done, effect-zero, effect-erase, effect-new, effect-move, effect-bsdiff, effect-stash, effect-free}
+use Rattle.updater.proofs.EffectLaws.{zero-done, free-done, effect-zero, effect-erase, effect-new, effect-stash, effect-free}
 use Rattle.updater.proofs.EffectLaws.{effect-unsupported, effect-bad, runs-zero, runs-erase, runs-move, runs-bsdiff, runs-stash}
 use Rattle.updater.proofs.commands.run_command.Statement.{statement}
 use Rattle.updater.proofs.commands.run_command.Tie as tie
@@ -124,7 +124,7 @@ returns-4 : tie.Need-returns-4
 returns-4 c =
     let k = c .before .before .before .before .before .before .before .before .before in
     let s = start (k .before .before) in
-    rw (effect-move (s .args .l .now) (stashes s) (s .args .line .hash) (areas s) (k .command3 .given .1))
+    rw (k .command3 .given .1)
     (c .before .before .before .before .run-move .ensures (s .args .result .now) (s .args .patch .now))
 
 same-length-6 : tie.Need-same-length-6
@@ -143,7 +143,7 @@ returns-5 : tie.Need-returns-5
 returns-5 c =
     let k = c .before .before .before .before .before .before .before .before .before .before .before .before in
     let s = start (k .before .before) in
-    rw (effect-bsdiff (s .args .l .now) (stashes s) (s .args .line .hash) (areas s) (k .command4 .given .1))
+    rw (k .command4 .given .1)
     (c .before .before .before .before .before .before .run-bsdiff .ensures)
 
 same-length-10 : tie.Need-same-length-10

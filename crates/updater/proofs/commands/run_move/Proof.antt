@@ -1,4 +1,5 @@
--- `run_move` meets its contract: the source goes into the work area and, if its hash is the given one, from there over the target.
+-- `run_move` meets its contract: a target that has the hash is left; else the source goes into the work area and, if its hash is the given
+-- one, from there over the target.
 -- Assumes nothing.
 use mathlib.Core.Path.{_≡_, sym, _∙_}
 use mathlib.Core.List.{List}
@@ -9,12 +10,17 @@ use borrow.Author.Needs.{needs}
 use borrow.Author.Tests.{not-true, not-false}
 use Rattle.state.specs.Stashes.{Stash, tableAt, heldIn}
 use Rattle.updater.specs.Areas.{Areas, areasOf}
-use Rattle.updater.proofs.EffectLaws.{move-done, move-differs}
+use Rattle.updater.specs.Effect.{Effect, moveEffect, effect}
+use Rattle.command.specs.declared.Command.the-variants.{Move}
+use Rattle.updater.proofs.EffectLaws.{move-finished, move-unfinished, move-done, move-differs}
 use Rattle.updater.proofs.commands.run_move.Statement.{statement}
 use Rattle.updater.proofs.commands.run_move.Tie as tie
 
-abbrev start : tie.After-has-hash → tie.Start
-start c = c .before .before .before .before .before .before .before .before .before .before .before
+abbrev start : tie.After-set-has-hash → tie.Start
+start c = c .before .before .before .before .before .before
+
+abbrev looked : tie.After-has-hash → tie.After-set-has-hash
+looked c = c .before .before .before .before .before .before .before .before
 
 abbrev stashes : tie.Start → List Stash
 stashes s = heldIn (tableAt (s .args .hashes .now) (s .args .sizes .now) (s .args .count))
@@ -24,35 +30,39 @@ areas s = areasOf (s .args .image .now) (s .args .stash .now) (s .args .work .no
 
 -- the work area is as long as it was
 kept : (c : tie.After-has-hash) →
-    length (c .before .before .before .before .put-together .last .1 .1 .0) ≡ length (start c .args .work .now)
+    length (c .before .before .before .before .put-together .last .1 .1 .0) ≡ length (start (looked c) .args .work .now)
 kept c = c .before .before .before .before .put-together .kept .1 .1 .0
 
-put-together-requires : tie.Need-put-together-requires
-put-together-requires c κs = search needs
-
-has-hash-requires : tie.Need-has-hash-requires
-has-hash-requires c κs = search needs
-
-same-length : tie.Need-same-length
-same-length c = search needs
-
-same-length-2 : tie.Need-same-length-2
-same-length-2 c = search needs
+-- a target that has not the hash: the command goes on
+goes-on : (c : tie.After-has-hash) (result patch : List ℕ) {x : Effect} →
+    let s = start (looked c) in
+    let a = s .args in
+    x ≡ moveEffect (a .l .now) (stashes s) (a .hash) (a .target) (a .n) (a .source) (areas s result patch) →
+    x ≡ effect (a .l .now) (stashes s) (a .hash) (Move (a .target) (a .n) (a .source)) (areas s result patch)
+goes-on c result patch =
+    let s = start (looked c) in
+    let a = s .args in
+    move-unfinished (a .l .now) (stashes s) (a .hash) (areas s result patch) (a .target) (a .n) (a .source)
+    (looked c .set-has-hash .ensures)
+    (c .before .before .before .before .before .before .before .if1 .left)
 
 returns : tie.Need-returns
 returns c result patch =
-    let h = c .before in
-    let s = start h in
+    let s = start (c .before) in
     let a = s .args in
-    move-differs (a .l .now) (stashes s) (a .hash) (areas s result patch) (a .target) (a .n) (a .source)
+    move-finished (a .l .now) (stashes s) (a .hash) (areas s result patch) (a .target) (a .n) (a .source)
+    (c .before .set-has-hash .ensures)
+    (c .if1 .taken)
+
+returns-2 : tie.Need-returns-2
+returns-2 c result patch =
+    let h = c .before in
+    let s = start (looked h) in
+    let a = s .args in
+    goes-on h result patch
+    (move-differs (a .l .now) (stashes s) (a .hash) (areas s result patch) (a .target) (a .n) (a .source)
     (h .before .before .before .before .put-together .ensures)
-    (sym (h .has-hash .ensures) ∙ not-true _ (c .if1 .taken))
-
-mul-end : tie.Need-mul-end
-mul-end c = search needs
-
-slice-reshare-prefix-write-set : tie.Need-slice-reshare-prefix-write-set
-slice-reshare-prefix-write-set c = search needs
+    (sym (h .has-hash .ensures) ∙ not-true _ (c .if2 .taken)))
 
 slice-aggregate-write-set : tie.Need-slice-aggregate-write-set
 slice-aggregate-write-set c = simp length-take (omega (arith, kept (c .before .before .before)))
@@ -60,39 +70,37 @@ slice-aggregate-write-set c = simp length-take (omega (arith, kept (c .before .b
 write-set-requires : tie.Need-write-set-requires
 write-set-requires c κs =
     let h = c .before .before .before in
-    let r = start h .pre .1 in
+    let r = start (looked h) .pre .1 in
     (r .goal .below, simp length-take (omega (arith, kept h, r .goal .size, r .size, r .room)))
 
-same-length-3 : tie.Need-same-length-3
-same-length-3 c = search needs
-
-same-length-4 : tie.Need-same-length-4
-same-length-4 c = search needs
-
-returns-2 : tie.Need-returns-2
-returns-2 c result patch =
+returns-3 : tie.Need-returns-3
+returns-3 c result patch =
     let e = c .before .before .before .before .before in
     let h = e .before in
-    let s = start h in
+    let s = start (looked h) in
     let a = s .args in
-    move-done (a .l .now) (stashes s) (a .hash) (areas s result patch) (a .target) (a .n) (a .source)
+    goes-on h result patch
+    (move-done (a .l .now) (stashes s) (a .hash) (areas s result patch) (a .target) (a .n) (a .source)
     (h .before .before .before .before .put-together .ensures)
-    (sym (h .has-hash .ensures) ∙ not-false _ (e .if1 .left))
-    (c .before .before .write-set .ensures)
+    (sym (h .has-hash .ensures) ∙ not-false _ (e .if2 .left))
+    (c .before .before .write-set .ensures))
 
 pub run-move-spec : {M : Type 1} → statement M
 run-move-spec =
     tie.close
     (tie.spec
-    put-together-requires
-    has-hash-requires
-    same-length
-    same-length-2
+    (λ c κs. search needs)
+    (λ c. search needs)
     returns
-    mul-end
-    slice-reshare-prefix-write-set
+    (λ c κs. search needs)
+    (λ c κs. search needs)
+    (λ c. search needs)
+    (λ c. search needs)
+    returns-2
+    (λ c. search needs)
+    (λ c. search needs)
     slice-aggregate-write-set
     write-set-requires
-    same-length-3
-    same-length-4
-    returns-2)
+    (λ c. search needs)
+    (λ c. search needs)
+    returns-3)

@@ -45,7 +45,7 @@ imageBlocksOf l (Blocks set) = blocksAt l (set .at)
 imageBlocksOf l (Stashes first) = []
 imageBlocksOf l (Both set places first) = blocksAt l (set .at)
 
--- the blocks of the image that a command reads
+-- the blocks of the image that the source of a command reads
 unfoldable pub sourceBlocks : List ℕ → Command → List ℕ
 sourceBlocks l (Zero set) = []
 sourceBlocks l (Erase set) = []

@@ -1,5 +1,5 @@
 -- Document 02, R-7: a list without an empty range answers as before, R-6's byte apart; and which lists no longer open. `leastBefore` in a
--- definition is the rule before R-7, `leastBlocks` the rule as it is.
+-- definition is the rule before R-7, `leastBlocks` the rule as it is; all other rules are those of today on both sides, R-8's too.
 -- Assumes nothing: these are definitions.
 use Prim.Native.Nat.{ℕ, _≤_, _<_}
 use mathlib.Core.Path.{_≡_}

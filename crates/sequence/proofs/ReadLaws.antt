@@ -28,7 +28,7 @@ use Rattle.updater.specs.Source.{supplied, together, hashesTo, blocksHashTo}
 use Rattle.updater.specs.Areas.{Areas, withImage, withWork}
 use Rattle.updater.specs.Effect.{Effect, zeroEffect, moveEffect, patchOf, resultMade, resultEffect, patchEffect, bsdiffEffect, stashEffect}
 use Rattle.updater.specs.Effect.{freeEffect, unfinishedEffect, isFinished, effect}
-use Rattle.sequence.specs.Footprint.{SameIn, SameButImage, OnlyLooked, OnlyRead}
+use Rattle.sequence.specs.Footprint.{SameIn, SameButImage, OnlyLooked, FinishedLeaves, OnlyRead}
 use Rattle.sequence.proofs.SameLaws.{same-fewer}
 
 -- ---- a source
@@ -81,6 +81,11 @@ alike-pick : (t : Bool) {x y x' y' : Effect} → SameButImage x x' → SameButIm
 alike-pick true e f = e
 alike-pick false e f = f
 
+-- .. where the second is only asked for when the test fails
+alike-unless : (t : Bool) {x y x' y' : Effect} → SameButImage x x' → (t ≡ false → SameButImage y y') → SameButImage (pick t x y) (pick t x' y')
+alike-unless true e f = e
+alike-unless false e f = f refl
+
 unfinished-read : (l : List ℕ) (held : List Stash) (hash : List ℕ) (c : Command) (a : Areas) (image : List ℕ) →
     SameIn (In (sourceBlocks l c)) (a .image) image →
     SameButImage (unfinishedEffect l held hash c a) (unfinishedEffect l held hash c (withImage a image))
@@ -112,8 +117,13 @@ unfinished-read l held hash (command.Bad p) a image f = alike refl refl refl ref
 
 pub only-read : OnlyRead
 unfolding effect
-only-read l held hash c a image f e =
-    rw e (alike-pick (isFinished l hash c (a .image)) (alike refl refl refl refl) (unfinished-read l held hash c a image f))
+only-read l held hash c a image e f =
+    rw e
+    (alike-unless (isFinished l hash c (a .image)) (alike refl refl refl refl) (λ n. unfinished-read l held hash c a image (f n)))
+
+pub finished-leaves : FinishedLeaves
+unfolding effect
+finished-leaves l held hash c a e = rw e
 
 -- ---- whether it is finished
 

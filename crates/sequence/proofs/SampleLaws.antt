@@ -7,11 +7,12 @@ use Prim.Native.Nat.{ℕ}
 use native.Mathlib.Omega.{arith}
 use lib.ListN.{length, drop, take, length-drop, length-take, take-append-drop}
 use Rattle.text.specs.Number.{meets, reaches, canMeet, endOf as endOfNumber, digits, numberFrom, numberFor}
-use Rattle.text.specs.Expected.{expectedAt}
+use Rattle.text.specs.Expected.{expectedAt, onExpected}
 use Rattle.text.specs.Word.{isFirstWord}
 use Rattle.ranges.specs.Ranges.{itemAt, pairAt, pairsAt, setAt, sizeOf, endOf, summary, rangesAt, span, blocksOf}
 use Rattle.ranges.specs.Walk.{pairsOf, rangesOf, blocksAt, AllBelow}
-use Rattle.text.specs.Hash.{hashAt}
+use Rattle.text.specs.Hash.{noHash, hashAt}
+use Rattle.text.specs.declared.hash.Hash.{Hash}
 use Rattle.text.specs.Hex.{hexOf}
 use Rattle.text.specs.declared.expected.Expected.the-variants as expected
 use Rattle.state.specs.Limits.{blockBytes}
@@ -20,7 +21,9 @@ use Rattle.state.proofs.StashLaws.{same-refl, same-eq}
 use Rattle.command.specs.Words.{wordIn}
 use Rattle.command.specs.Fields.{numberField, hashField, setField, lastSet}
 use Rattle.command.specs.Parts.{partEnd, placesFrom, partAt, partsIn, partsAt, partsField, usesIn, usesAt}
-use Rattle.command.specs.Commands.{rangeLine, withPlaces, afterBlocks, sourceFrom, sourceField, lengthFrom, targetFrom, freeFrom, hashedLine, commandOf}
+use Rattle.command.specs.Commands.{rangeLine, withPlaces, afterBlocks, sourceFrom, sourceField, lengthFrom, targetFrom, freeFrom, hashedLine, digestFrom}
+use Rattle.command.specs.Commands.{patchedLine, lengthLine, bsdiffLine, commandOf}
+use Rattle.command.specs.Patching.{patchingFrom, patchingOf, resultHash}
 use Rattle.command.specs.Faults.{faultOf, faultByte}
 use Rattle.command.specs.Targets.{newTarget}
 use Rattle.rules.specs.Held.{heldAfter}
@@ -30,7 +33,7 @@ use Rattle.rules.specs.Rules.{freeRefusal, refusalFor, refusalOf}
 use Rattle.updater.specs.Bytes.{zeroed, putBytes}
 use Rattle.updater.specs.Source.{stashBytes, spread, supplied, together, hashesTo, blocksHashTo, closedUp}
 use Rattle.updater.specs.Effect.{zeroEffect, moveEffect, freeEffect, unfinishedEffect, isFinished, effect}
-use Rattle.sequence.specs.Samples.{text, Block, Digest, hex, bytesOf, Table, Samples}
+use Rattle.sequence.specs.Samples.{text, Block, Digest, hex, bytesOf, patchLine, Table, Samples}
 use Rattle.updater.proofs.NewLaws.{put-bytes-append}
 use Rattle.text.proofs.HexLaws.{hash-written}
 use Rattle.sequence.proofs.RowLaws.{length-row, take-row, over-front, over-block, gathered-row, written-row, zeroed-row, put-front}
@@ -53,6 +56,26 @@ module _ (h x : Digest) (places : List ℕ) where
   stash-8 : hashAt line-8 70 ≡ record { read = expected.Past 110; bytes = x .bytes }
   unfolding hexOf
   stash-8 = hash-written (text "move " ++ hex h ++ text " 2,5,8 3 2,0,2 4,0,1,2,3 ") (x .bytes) places 70 (x .whole) (x .each) refl
+
+-- H and T of a `bsdiff`
+hash-bsdiff : (h t : Digest) → hashAt (patchLine h t) 11 ≡ record { read = expected.Past 51; bytes = h .bytes }
+unfolding hexOf
+hash-bsdiff h t = hash-written (text "bsdiff 0 0 ") (h .bytes) (text " " ++ (hex t ++ text " 2,1,3 1 2,0,1\n")) 11 (h .whole) (h .each) refl
+
+result-bsdiff : (h t : Digest) → hashAt (patchLine h t) 52 ≡ record { read = expected.Past 92; bytes = t .bytes }
+unfolding hexOf
+result-bsdiff h t = hash-written (text "bsdiff 0 0 " ++ hex h ++ text " ") (t .bytes) (text " 2,1,3 1 2,0,1\n") 52 (t .whole) (t .each) refl
+
+hashes-bsdiff : (h t : Digest) → patchingOf (patchLine h t) .hashes ≡ 10
+unfolding meets canMeet endOfNumber digits numberFrom numberFor expectedAt hexOf numberField patchingFrom patchingOf
+hashes-bsdiff h t = refl
+
+wanted-bsdiff : (h t : Digest) → resultHash (patchLine h t) (patchingOf (patchLine h t) .hashes) ≡ t .bytes
+unfolding expectedAt hexOf hashField resultHash
+wanted-bsdiff h t =
+    ap (resultHash (patchLine h t)) (hashes-bsdiff h t)
+    ∙ ap (λ (r : Hash). onExpected (r .read) (λ i. hashField (patchLine h t) i .bytes) (λ p. noHash)) (hash-bsdiff h t)
+    ∙ ap (λ (r : Hash). r .bytes) (result-bsdiff h t)
 
 hash-13 : (x : Digest) → hashAt (text "free " ++ hex x ++ text "\n") 5 ≡ record { read = expected.Past 45; bytes = x .bytes }
 hash-13 x = hash-written (text "free ") (x .bytes) (text "\n") 5 (x .whole) (x .each) refl
@@ -101,7 +124,7 @@ module _ (A B C D E F G H T1 T2 T3 W1 W2 W3 : Block) where
   table : Table A B C D E F G H T1 T2 T3 W1 W2 W3
   unfolding meets reaches canMeet endOfNumber digits numberFrom numberFor expectedAt isFirstWord itemAt pairAt pairsAt setAt sizeOf endOf summary rangesAt span blocksOf pairsOf
       rangesOf blocksAt AllBelow hexOf wordIn numberField hashField setField lastSet rangeLine withPlaces afterBlocks sourceFrom sourceField
-      lengthFrom targetFrom freeFrom hashedLine commandOf partEnd placesFrom partAt partsIn partsAt partsField usesIn usesAt findIn isHeld sizeAt blocksHeld without sourcePast sourceOver usesBy someMissing stashBlocks
+      lengthFrom targetFrom freeFrom hashedLine digestFrom patchedLine lengthLine bsdiffLine commandOf partEnd placesFrom partAt partsIn partsAt partsField usesIn usesAt findIn isHeld sizeAt blocksHeld without sourcePast sourceOver usesBy someMissing stashBlocks
       someDiffer placesNamed sourceDiffers placesOf placesBy isIn someMisplaced sourcedRefusal moveRefusal freeRefusal refusalFor refusalOf stashBytes
       faultOf faultByte spread supplied together closedUp hashesTo newTarget heldAfter zeroEffect moveEffect freeEffect unfinishedEffect blocksHashTo isFinished effect pickedOf putAt zeroed
   table =
@@ -126,6 +149,10 @@ module _ (A B C D E F G H T1 T2 T3 W1 W2 W3 : Block) where
             (written-row (1 ∷ 2 ∷ 3 ∷ []) (A ∷ B ∷ C ∷ []) image (omega arith) refl);
         case-7-finished = λ h s.
             rw (hash-7 h (text " 2,1,4 3 2,0,3\n"), gathered-row (1 ∷ 2 ∷ 3 ∷ []) image (omega arith), s, same-refl (h .bytes));
+        bsdiff-finished = λ h t s.
+            rw (hash-bsdiff h t, result-bsdiff h t, wanted-bsdiff h t, gathered-row (1 ∷ 2 ∷ []) image (omega arith), s, same-refl (t .bytes));
+        bsdiff-unfinished = λ h t d.
+            rw (hash-bsdiff h t, result-bsdiff h t, wanted-bsdiff h t, gathered-row (1 ∷ 2 ∷ []) image (omega arith), same-not d);
         case-8 = λ h x S s d.
             rw (hash-8 h x (text ":2,1,2\n"), stash-8 h x (text ":2,1,2\n"), stash-8 h x (text ":2,1,2\n"), same-refl (x .bytes))
             (rw (

@@ -22,7 +22,7 @@ use Rattle.updater.specs.Calls.{lengthsAt}
 use Rattle.updater.specs.declared.Outcome.the-variants as outcome
 use Rattle.sequence.specs.Model.{Model, model, modelOutcome}
 use Rattle.sequence.specs.Sequence.{leavesAll, takesAll, lastSays, lastTakes, lastPiece}
-use Rattle.sequence.specs.Footprint.{OnlyWritten, OnlyLooked, OnlyRead}
+use Rattle.sequence.specs.Footprint.{OnlyWritten, OnlyLooked, FinishedLeaves, OnlyRead}
 
 -- the areas as they stood at opening, with the state that it gave
 abbrev pub openedConfig : List ℕ → Areas → Config
@@ -70,9 +70,11 @@ pub record Claim : Type 0 where
   pub only-written : (s : List ℕ) (a : Areas) → Accepted s a →
       (q : List ℕ) (qs : List (List ℕ)) →
       OnlyWritten s (leavesAll leastBlocks s (q ∷ qs) (openedConfig s a) .state .at) a (leavesAll leastBlocks s (q ∷ qs) (openedConfig s a) .areas)
-  -- whether a command is finished depends on its target blocks alone
+  -- whether a command is finished depends, of the image, on its target blocks alone
   pub only-looked : OnlyLooked
-  -- what a command that is not puts together, patches and stashes depends, of the image, on its source blocks alone
+  -- a finished command changes nothing; what an unfinished one puts together, patches and stashes depends, of the image, on its source blocks
+  -- alone
+  pub finished-leaves : FinishedLeaves
   pub only-read : OnlyRead
   -- a call whose outcome is more took its whole piece
   pub whole : (s : List ℕ) (a : Areas) → Accepted s a →

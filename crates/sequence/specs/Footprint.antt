@@ -11,6 +11,7 @@ use Rattle.text.specs.Line.{lineAt}
 use Rattle.text.specs.Expected.{lf}
 use Rattle.ranges.specs.Ranges.{leastBlocks}
 use Rattle.state.specs.Limits.{blockBytes}
+use Rattle.state.specs.Refusals.{none}
 use Rattle.state.specs.Stashes.{Stash}
 use Rattle.command.specs.Commands.{commandOf}
 use Rattle.command.specs.Targets.{targetBlocks, sourceBlocks}
@@ -22,7 +23,7 @@ use Rattle.transfer_list.specs.Opening.{firstAt}
 use Rattle.transfer_list.specs.declared.header.HeaderRead.{HeaderRead}
 use Rattle.transfer_list.specs.declared.header.HeaderRead.the-variants.{Good, Bad}
 use Rattle.updater.specs.Areas.{Areas, withImage}
-use Rattle.updater.specs.Effect.{Effect, isFinished, effect}
+use Rattle.updater.specs.Effect.{Effect, effectOf, isFinished, effect}
 
 -- an area is as long as before, and its bytes in those blocks are as before
 pub record SameIn (blocks : ℕ → Type 0) (before after : List ℕ) : Type 0 where
@@ -95,10 +96,17 @@ pub record SameButImage (x y : Effect) : Type 0 where
   pub result : y .areas .result ≡ x .areas .result
   pub refusal : y .refusal ≡ x .refusal
 
--- besides that, a command reads its source blocks alone, of the image: what it puts together, patches and stashes is the same over an image
--- that is alike there, and where it is finished or not as before
+-- where it is, nothing changes and nothing is refused
+abbrev pub FinishedLeaves : Type 0
+FinishedLeaves =
+    (l : List ℕ) (held : List Stash) (hash : List ℕ) (c : Command) (a : Areas) →
+    isFinished l hash c (a .image) ≡ true → effect l held hash c a ≡ effectOf a none
+
+-- where it is not, it reads its source blocks alone, of the image: what it puts together, patches and stashes is the same over an image that is
+-- alike there, and on which it is not finished either
 abbrev pub OnlyRead : Type 0
 OnlyRead =
     (l : List ℕ) (held : List Stash) (hash : List ℕ) (c : Command) (a : Areas) (image : List ℕ) →
-    SameIn (λ b. isIn b (sourceBlocks l c) ≡ true) (a .image) image → isFinished l hash c image ≡ isFinished l hash c (a .image) →
+    isFinished l hash c image ≡ isFinished l hash c (a .image) →
+    (isFinished l hash c (a .image) ≡ false → SameIn (λ b. isIn b (sourceBlocks l c) ≡ true) (a .image) image) →
     SameButImage (effect l held hash c a) (effect l held hash c (withImage a image))

@@ -1,5 +1,5 @@
--- Document 01, "The model", and document 02, R-4: it is fed the list text, image, areas and patch data as they stood at opening, and all
--- pieces joined; it mentions no call and no piece.
+-- Document 01, "The model", and document 02, R-4 and R-8: it is fed the list text, image, areas and patch data as they stood at opening, and
+-- all pieces joined; it mentions no call and no piece.
 -- Assumes nothing: these are definitions.
 use Prim.Native.Nat.{ℕ, zero, suc, _+_, _*_}
 use mathlib.Core.List.{List, []}
@@ -96,7 +96,7 @@ doNew next l set m xs =
     (next (lineEnds l (withBytes (blocksAt l (set .at)) (take (blockBytes * set .blocks) xs) m)) (drop (blockBytes * set .blocks) xs))
     (withBytes (blocksAt l (set .at)) xs m)
 
--- any other command: its effect, and what is held after it; a command that stops (a hash differs, a patch is malformed) is refused with its
+-- any other command: its effect, none where it is finished, and what is held after it; a command that stops (a hash differs, a patch is malformed) is refused with its
 -- number and line, and nothing more is written
 abbrev pub doEffect : (Model → List ℕ → Model) → List ℕ → Line → Model → List ℕ → Effect → Model
 doEffect next l line m xs e =

@@ -3,6 +3,7 @@
 -- whatever it is; R-8: and the target's to differ from it.
 -- Assumes nothing: these are definitions.
 use mathlib.Core.Path.{_≡_}
+use mathlib.Core.Bool.{false}
 use mathlib.Core.List.{List, [], _∷_, _++_}
 use Prim.Native.Nat.{ℕ}
 use Prim.Native.Char.{code}
@@ -26,6 +27,7 @@ use Rattle.rules.specs.declared.Terms.{Terms}
 use Rattle.state.specs.States.{noRefusal}
 use Rattle.transfer_list.specs.Header.{firstLine}
 use Rattle.updater.specs.Areas.{areasOf}
+use Rattle.updater.specs.Effect.{isFinished}
 use Rattle.sequence.specs.Model.{Model, doLine, lineEnds}
 
 -- the bytes of a text of plain characters
@@ -85,6 +87,10 @@ abbrev pub done : List ℕ → Model → List ℕ → Model
 done l m new =
     pick (eqb (refusalOf leastBlocks l terms (m .stashes)) none) (doLine (λ left rest. left) l (commandOf leastBlocks l) m new) m
 
+-- a patch of no bytes over blocks 1 and 2, of block 0
+abbrev pub patchLine : Digest → Digest → List ℕ
+patchLine h t = text "bsdiff 0 0 " ++ hex h ++ text " " ++ hex t ++ text " 2,1,3 1 2,0,1\n"
+
 -- a stash of n blocks, held under a hash
 abbrev pub stashOf : Digest → ℕ → Stash
 stashOf h n = record { hash = h .bytes; blocks = n }
@@ -136,6 +142,11 @@ module _ (A B C D E F G H T1 T2 T3 W1 W2 W3 : Block) where
     -- .. and where the target has that hash, as after the line has run once: the line ends and nothing else changes, whatever the source.
     pub case-7-finished : (h : Digest) → sha1 (bytesOf (B ∷ C ∷ D ∷ [])) ≡ h .bytes →
         let l = text "move " ++ hex h ++ text " 2,1,4 3 2,0,3\n" in done l start [] ≡ lineEnds l start
+    -- .. a `bsdiff` goes by T, over R's blocks, whatever H and N are. Its line is not checked here, where there is no room for a result.
+    pub bsdiff-finished : (h t : Digest) → sha1 (bytesOf (B ∷ C ∷ [])) ≡ t .bytes →
+        let l = patchLine h t in doLine (λ left rest. left) l (commandOf leastBlocks l) start [] ≡ lineEnds l start
+    pub bsdiff-unfinished : (h t : Digest) → (sha1 (bytesOf (B ∷ C ∷ [])) ≡ t .bytes → ⊥) →
+        let read = commandOf leastBlocks (patchLine h t) in isFinished (patchLine h t) (read .hash) (read .command) (start .areas .image) ≡ false
     -- 8. Stash X is one block S. `move` to `2,5,8`, `3 2,0,2 4,0,1,2,3 X:2,1,2`: A B C D E A S B.
     pub case-8 : (h x : Digest) (S : Block) → sha1 (bytesOf (A ∷ S ∷ B ∷ [])) ≡ h .bytes → (sha1 (bytesOf (F ∷ G ∷ H ∷ [])) ≡ h .bytes → ⊥) →
         done (text "move " ++ hex h ++ text " 2,5,8 3 2,0,2 4,0,1,2,3 " ++ hex x ++ text ":2,1,2\n")

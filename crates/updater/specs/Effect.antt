@@ -110,19 +110,6 @@ closedFound held stash Nothing = stash
 unfoldable pub freeEffect : List Stash → List ℕ → Areas → Effect
 freeEffect held hash a = effectOf (withStash a (closedFound held (a .stash) (findIn held hash))) none
 
--- a command that is not finished, with its hash, on the line l. The bytes of a `new` go to R one by one (`putByte`), so that nothing is left to
--- do here; a line that is unsupported or bad is refused and does not run
-unfoldable pub unfinishedEffect : List ℕ → List Stash → List ℕ → Command → Areas → Effect
-unfinishedEffect l held hash (command.Zero set) a = zeroEffect l set a
-unfinishedEffect l held hash (command.Erase set) a = zeroEffect l set a
-unfinishedEffect l held hash (command.New set) a = effectOf a none
-unfinishedEffect l held hash (command.Move target n source) a = moveEffect l held hash target n source a
-unfinishedEffect l held hash (command.Bsdiff target n source) a = bsdiffEffect l held hash target n source a
-unfinishedEffect l held hash (command.Stash set) a = stashEffect l held hash set a
-unfinishedEffect l held hash command.Free a = freeEffect held hash a
-unfinishedEffect l held hash command.Unsupported a = effectOf a none
-unfinishedEffect l held hash (command.Bad p) a = effectOf a none
-
 -- document 02, R-8: the target already holds the result. The blocks of R in the written order, one that is named twice taken twice, hash to
 -- H of a `move`, to T of a `bsdiff`; no other command is finished before it runs
 unfoldable pub isFinished : List ℕ → List ℕ → Command → List ℕ → Bool
@@ -135,6 +122,19 @@ isFinished l hash (command.Stash set) image = false
 isFinished l hash command.Free image = false
 isFinished l hash command.Unsupported image = false
 isFinished l hash (command.Bad p) image = false
+
+-- a command that is not finished, with its hash, on the line l. The bytes of a `new` go to R one by one (`putByte`), so that nothing is left to
+-- do here; a line that is unsupported or bad is refused and does not run
+unfoldable pub unfinishedEffect : List ℕ → List Stash → List ℕ → Command → Areas → Effect
+unfinishedEffect l held hash (command.Zero set) a = zeroEffect l set a
+unfinishedEffect l held hash (command.Erase set) a = zeroEffect l set a
+unfinishedEffect l held hash (command.New set) a = effectOf a none
+unfinishedEffect l held hash (command.Move target n source) a = moveEffect l held hash target n source a
+unfinishedEffect l held hash (command.Bsdiff target n source) a = bsdiffEffect l held hash target n source a
+unfinishedEffect l held hash (command.Stash set) a = stashEffect l held hash set a
+unfinishedEffect l held hash command.Free a = freeEffect held hash a
+unfinishedEffect l held hash command.Unsupported a = effectOf a none
+unfinishedEffect l held hash (command.Bad p) a = effectOf a none
 
 -- what a command does: one that is finished reads no source and writes nothing, the work area neither
 unfoldable pub effect : List ℕ → List Stash → List ℕ → Command → Areas → Effect

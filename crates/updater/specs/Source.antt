@@ -1,4 +1,4 @@
--- Document 01, "Putting a source together" and "The stash area".
+-- Document 01, "Putting a source together" and "The stash area", and document 02, R-8: what blocks hash to.
 -- Assumes nothing: these are definitions.
 use Prim.Native.Nat.{ℕ, _+_, _-_, _*_}
 use mathlib.Core.List.{List, [], _∷_}

@@ -89,18 +89,18 @@ OnlyLooked =
     (l hash : List ℕ) (c : Command) (image other : List ℕ) →
     SameIn (λ b. isIn b (targetBlocks l c) ≡ true) image other → isFinished l hash c other ≡ isFinished l hash c image
 
+-- where it is, nothing changes and nothing is refused
+abbrev pub FinishedLeaves : Type 0
+FinishedLeaves =
+    (l : List ℕ) (held : List Stash) (hash : List ℕ) (c : Command) (a : Areas) →
+    isFinished l hash c (a .image) ≡ true → effect l held hash c a ≡ effectOf a none
+
 -- two effects leave the same stash, work and result area, and stop with the same number
 pub record SameButImage (x y : Effect) : Type 0 where
   pub stash : y .areas .stash ≡ x .areas .stash
   pub work : y .areas .work ≡ x .areas .work
   pub result : y .areas .result ≡ x .areas .result
   pub refusal : y .refusal ≡ x .refusal
-
--- where it is, nothing changes and nothing is refused
-abbrev pub FinishedLeaves : Type 0
-FinishedLeaves =
-    (l : List ℕ) (held : List Stash) (hash : List ℕ) (c : Command) (a : Areas) →
-    isFinished l hash c (a .image) ≡ true → effect l held hash c a ≡ effectOf a none
 
 -- where it is not, it reads its source blocks alone, of the image: what it puts together, patches and stashes is the same over an image that is
 -- alike there, and on which it is not finished either

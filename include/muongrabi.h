@@ -364,10 +364,11 @@ static inline muongrabi_state muongrabi_open_lent(const uint8_t *list, size_t li
  * A line that is finished is passed over. Of a `move` or `bsdiff` the target's blocks are hashed first, as they stand in the image and in the order
  * in which the line names them. Where that is the move's hash, or the hash of the bsdiff's result, no source and no patch is read, image, stash,
  * work and result area stay as they are, and the state goes to the next line. The line is checked before that as any other (6 to 12, 18). All other
- * commands are always done.
+ * commands run whenever they are met.
  *
  * So a list that is run again from its top over an image that it has updated passes over the lines that are finished. In general that is still not
- * safe: a later line may have changed a block that an earlier one needs, and what a `stash` names may be gone. After a cut go on from the state.
+ * safe: a later line may have changed a block that an earlier one needs, and what a `stash` names may be gone. After a dropped connection
+ * go on from the state of the last call.
  *
  * A `bsdiff` that is not finished puts its source together in the work area, and what the patch makes of it in the result area; only where both
  * have their hashes is the result written to the image. A patch is bsdiff's control triples and bytes unpacked, not a file that bsdiff wrote:

@@ -412,7 +412,7 @@ static void patches(void)
 
 /*
  * Lines whose target has the result already. A block is a page here, so that what such a line does can be seen: the target's blocks may be read
- * and not written, and all else that is lent may not be touched.
+ * and not written, and the rest of the image, the areas and the patch data may not be touched.
  */
 static void finished_lines(void)
 {

@@ -30,7 +30,7 @@ use Rattle.sequence.proofs.Running.{Running}
 use Rattle.sequence.proofs.PossibleLaws.{none-into, running-possible}
 use Rattle.sequence.proofs.OpenedLaws.{state-decided, opened-running}
 use Rattle.sequence.proofs.ModelLaws.{modelOf, model-eq, lines}
-use Rattle.sequence.proofs.ReadLaws.{only-looked, finished-leaves, only-read}
+use Rattle.sequence.proofs.ReadLaws.{finished-by-target, finished-leaves, only-read}
 use Rattle.sequence.proofs.FootprintLaws.{written-none, feeds-written}
 use Rattle.sequence.proofs.SequenceLaws.{Possible, runs, last-says, last-whole, leaves-joined, takes-joined, last-running, last-only}
 
@@ -148,7 +148,7 @@ claim =
       agrees = opened-agrees;
       alike = opened-alike;
       only-written = opened-written;
-      only-looked = only-looked;
+      finished-by-target = finished-by-target;
       finished-leaves = finished-leaves;
       only-read = only-read;
       whole = opened-whole;

@@ -28,7 +28,7 @@ use Rattle.updater.specs.Source.{supplied, together, hashesTo, blocksHashTo}
 use Rattle.updater.specs.Areas.{Areas, withImage, withWork}
 use Rattle.updater.specs.Effect.{Effect, zeroEffect, moveEffect, patchOf, resultMade, resultEffect, patchEffect, bsdiffEffect, stashEffect}
 use Rattle.updater.specs.Effect.{freeEffect, unfinishedEffect, isFinished, effect}
-use Rattle.sequence.specs.Footprint.{SameIn, SameButImage, OnlyLooked, FinishedLeaves, OnlyRead}
+use Rattle.sequence.specs.Footprint.{SameIn, SameButImage, FinishedByTarget, FinishedLeaves, OnlyRead}
 use Rattle.sequence.proofs.SameLaws.{same-fewer}
 
 -- ---- a source
@@ -131,15 +131,15 @@ blocks-hash-reads : (bs hash : List ℕ) {a b : List ℕ} → SameIn (In bs) a b
 unfolding blocksHashTo
 blocks-hash-reads bs hash f = rw (gathered-reads bs f)
 
-pub only-looked : OnlyLooked
+pub finished-by-target : FinishedByTarget
 unfolding isFinished targetBlocks
-only-looked l hash (command.Zero set) image other f = refl
-only-looked l hash (command.Erase set) image other f = refl
-only-looked l hash (command.New set) image other f = refl
-only-looked l hash (command.Move target n source) image other f = blocks-hash-reads (blocksAt l (target .at)) hash f
-only-looked l hash (command.Bsdiff target n source) image other f =
+finished-by-target l hash (command.Zero set) image other f = refl
+finished-by-target l hash (command.Erase set) image other f = refl
+finished-by-target l hash (command.New set) image other f = refl
+finished-by-target l hash (command.Move target n source) image other f = blocks-hash-reads (blocksAt l (target .at)) hash f
+finished-by-target l hash (command.Bsdiff target n source) image other f =
     blocks-hash-reads (blocksAt l (target .at)) (resultHash l (patchingOf l .hashes)) f
-only-looked l hash (command.Stash set) image other f = refl
-only-looked l hash command.Free image other f = refl
-only-looked l hash command.Unsupported image other f = refl
-only-looked l hash (command.Bad p) image other f = refl
+finished-by-target l hash (command.Stash set) image other f = refl
+finished-by-target l hash command.Free image other f = refl
+finished-by-target l hash command.Unsupported image other f = refl
+finished-by-target l hash (command.Bad p) image other f = refl

@@ -149,9 +149,9 @@ module _ (A B C D E F G H T1 T2 T3 W1 W2 W3 : Block) where
             (written-row (1 ∷ 2 ∷ 3 ∷ []) (A ∷ B ∷ C ∷ []) image (omega arith) refl);
         case-7-finished = λ h s.
             rw (hash-7 h (text " 2,1,4 3 2,0,3\n"), gathered-row (1 ∷ 2 ∷ 3 ∷ []) image (omega arith), s, same-refl (h .bytes));
-        bsdiff-finished = λ h t s.
+        patch-finished = λ h t s.
             rw (hash-bsdiff h t, result-bsdiff h t, wanted-bsdiff h t, gathered-row (1 ∷ 2 ∷ []) image (omega arith), s, same-refl (t .bytes));
-        bsdiff-unfinished = λ h t d.
+        patch-unfinished = λ h t d.
             rw (hash-bsdiff h t, result-bsdiff h t, wanted-bsdiff h t, gathered-row (1 ∷ 2 ∷ []) image (omega arith), same-not d);
         case-8 = λ h x S s d.
             rw (hash-8 h x (text ":2,1,2\n"), stash-8 h x (text ":2,1,2\n"), stash-8 h x (text ":2,1,2\n"), same-refl (x .bytes))

@@ -22,7 +22,7 @@ use Rattle.updater.specs.Calls.{lengthsAt}
 use Rattle.updater.specs.declared.Outcome.the-variants as outcome
 use Rattle.sequence.specs.Model.{Model, model, modelOutcome}
 use Rattle.sequence.specs.Sequence.{leavesAll, takesAll, lastSays, lastTakes, lastPiece}
-use Rattle.sequence.specs.Footprint.{OnlyWritten, OnlyLooked, FinishedLeaves, OnlyRead}
+use Rattle.sequence.specs.Footprint.{OnlyWritten, FinishedByTarget, FinishedLeaves, OnlyRead}
 
 -- the areas as they stood at opening, with the state that it gave
 abbrev pub openedConfig : List ℕ → Areas → Config
@@ -71,7 +71,7 @@ pub record Claim : Type 0 where
       (q : List ℕ) (qs : List (List ℕ)) →
       OnlyWritten s (leavesAll leastBlocks s (q ∷ qs) (openedConfig s a) .state .at) a (leavesAll leastBlocks s (q ∷ qs) (openedConfig s a) .areas)
   -- whether a command is finished depends, of the image, on its target blocks alone
-  pub only-looked : OnlyLooked
+  pub finished-by-target : FinishedByTarget
   -- a finished command changes nothing; what an unfinished one puts together, patches and stashes depends, of the image, on its source blocks
   -- alone
   pub finished-leaves : FinishedLeaves

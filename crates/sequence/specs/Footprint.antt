@@ -84,8 +84,8 @@ pub record OnlyWritten (s : List ℕ) (last : ℕ) (before after : Areas) : Type
 -- ---- what a command reads
 
 -- whether a command is finished goes by its target blocks alone
-abbrev pub OnlyLooked : Type 0
-OnlyLooked =
+abbrev pub FinishedByTarget : Type 0
+FinishedByTarget =
     (l hash : List ℕ) (c : Command) (image other : List ℕ) →
     SameIn (λ b. isIn b (targetBlocks l c) ≡ true) image other → isFinished l hash c other ≡ isFinished l hash c image
 

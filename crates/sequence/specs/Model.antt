@@ -96,8 +96,8 @@ doNew next l set m xs =
     (next (lineEnds l (withBytes (blocksAt l (set .at)) (take (blockBytes * set .blocks) xs) m)) (drop (blockBytes * set .blocks) xs))
     (withBytes (blocksAt l (set .at)) xs m)
 
--- any other command: its effect, none where it is finished, and what is held after it; a command that stops (a hash differs, a patch is malformed) is refused with its
--- number and line, and nothing more is written
+-- any other command: its effect, which is nothing where it is finished, and what is held after it; a command that stops (a hash differs, a
+-- patch is malformed) is refused with its number and line, and nothing more is written
 abbrev pub doEffect : (Model → List ℕ → Model) → List ℕ → Line → Model → List ℕ → Effect → Model
 doEffect next l line m xs e =
     pick (eqb (e .refusal) none)

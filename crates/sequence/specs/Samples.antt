@@ -1,4 +1,4 @@
--- Document 01, "Sample lists": cases 1 to 13, in one table. They are about the rules themselves: how range sets and lines are read, what a
+-- Document 01, "Sample lists": cases 1 to 13, in one table, and what R-8 of document 02 adds to them. They are about the rules themselves: how range sets and lines are read, what a
 -- line is refused for, and what the model does with it. Document 02, R-7: 3 and 6 are refusals. In 7 and 8 the hash is taken to match,
 -- whatever it is; R-8: and the target's to differ from it.
 -- Assumes nothing: these are definitions.
@@ -142,10 +142,11 @@ module _ (A B C D E F G H T1 T2 T3 W1 W2 W3 : Block) where
     -- .. and where the target has that hash, as after the line has run once: the line ends and nothing else changes, whatever the source.
     pub case-7-finished : (h : Digest) → sha1 (bytesOf (B ∷ C ∷ D ∷ [])) ≡ h .bytes →
         let l = text "move " ++ hex h ++ text " 2,1,4 3 2,0,3\n" in done l start [] ≡ lineEnds l start
-    -- .. a `bsdiff` goes by T, over R's blocks, whatever H and N are. Its line is not checked here, where there is no room for a result.
-    pub bsdiff-finished : (h t : Digest) → sha1 (bytesOf (B ∷ C ∷ [])) ≡ t .bytes →
+    -- .. a `bsdiff` goes by T, whatever H is, and over R's two blocks where N is 1. Its line is not checked here, where there is no room for a
+    -- result.
+    pub patch-finished : (h t : Digest) → sha1 (bytesOf (B ∷ C ∷ [])) ≡ t .bytes →
         let l = patchLine h t in doLine (λ left rest. left) l (commandOf leastBlocks l) start [] ≡ lineEnds l start
-    pub bsdiff-unfinished : (h t : Digest) → (sha1 (bytesOf (B ∷ C ∷ [])) ≡ t .bytes → ⊥) →
+    pub patch-unfinished : (h t : Digest) → (sha1 (bytesOf (B ∷ C ∷ [])) ≡ t .bytes → ⊥) →
         let read = commandOf leastBlocks (patchLine h t) in isFinished (patchLine h t) (read .hash) (read .command) (start .areas .image) ≡ false
     -- 8. Stash X is one block S. `move` to `2,5,8`, `3 2,0,2 4,0,1,2,3 X:2,1,2`: A B C D E A S B.
     pub case-8 : (h x : Digest) (S : Block) → sha1 (bytesOf (A ∷ S ∷ B ∷ [])) ≡ h .bytes → (sha1 (bytesOf (F ∷ G ∷ H ∷ [])) ≡ h .bytes → ⊥) →

@@ -131,11 +131,12 @@ pub fn open(list: &[u8], lengths: Lengths) -> Result<State, Refusal> {
 ///
 /// Of a `move` or `bsdiff` the target's blocks are hashed first, as they stand in the image and in the order in which the line names them. Where
 /// that is the move's hash, or the hash of the bsdiff's result, the line is finished: no source and no patch is read, image, stash, work and result
-/// area stay as they are, and the state goes to the next line. The line is checked before that as any other. All other commands are always done.
+/// area stay as they are, and the state goes to the next line. The line is checked before that as any other. All other commands run whenever they
+/// are met.
 ///
 /// So a list that is run again from its top over an image that it has updated passes over the lines that are finished. In general that is still
-/// not safe: a later line may have changed a block that an earlier one needs, and what a `stash` names may be gone. After a cut go on from the
-/// state.
+/// not safe: a later line may have changed a block that an earlier one needs, and what a `stash` names may be gone. After a dropped
+/// connection go on from the state of the last call.
 ///
 /// ```
 /// use muongrabi::{digest, run, Areas, Outcome, BLOCK};

@@ -3,13 +3,13 @@
 -- Assumes nothing.
 use Prim.Native.Nat.{ℕ, _+_, _-_, _*_, _/_, _^_, _≤_, _<_}
 use mathlib.Core.Path.{_≡_, sym, ap, subst, _∙_}
-use mathlib.Core.List.{List, _∷_}
+use mathlib.Core.List.{List, [], _∷_}
 use native.Mathlib.Omega.{arith}
 use borrow.Author.Needs.{needs}
 use lib.ListN.{length, take, drop}
-use Rattle.sha1.specs.Pieces.{started, absorbed, finished, started-is}
+use Rattle.sha1.specs.Pieces.{started, absorbed, finished}
 use Rattle.sha1.specs.declared.Hasher.{Hasher}
-use Rattle.sha1.proofs.DigestLaws.{absorbed-count}
+use Rattle.sha1.proofs.DigestLaws.{absorbed-count, started-empty}
 use Rattle.ranges.specs.Walk.{blocksAt, remaining, AllBelow}
 use Rattle.ranges.proofs.WalkLaws.{walk-done, walk-block}
 use Rattle.state.specs.Limits.{blockBytes}
@@ -56,7 +56,7 @@ loop-holds c =
     let s = c .before .before .before .before in
     let e = walk-blocks (s .args .l .now) (s .args .at) (c .walk-from .ensures) in
     let h = c .before .start .ensures in (
-      rw (h, started-is) (omega arith),
+      rw (h, ← started-empty) (absorbed-count started []),
       subst (AllBelow _) (sym e) (s .pre),
       rw (h, e),
     )

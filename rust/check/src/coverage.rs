@@ -1,5 +1,6 @@
 //! How often each thing occurred in a series of cases.
 
+mod finished;
 mod form;
 mod limits;
 mod lines;
@@ -9,6 +10,8 @@ mod sparse;
 
 use crate::generate::line_starts;
 use crate::hex;
+use finished::Finished;
+pub use finished::{is_finished, Kept};
 use form::{Forms, BYTES};
 use limits::LIMITS;
 pub use lines::LineCoverage;
@@ -98,6 +101,8 @@ pub struct Coverage {
     pub sequences: u64,
     pub runs: u64,
     pub digests: u64,
+    /// Finished lines over closed memory.
+    pub closed: u64,
     pub lines: [u64; LINES.len()],
     pub kinds: [u64; KINDS.len()],
     /// Openings and calls with many stashes and long sources.
@@ -112,6 +117,8 @@ pub struct Coverage {
     pub given_before: [u64; 20],
     /// Calls by what they did with the byte of a refusal.
     pub bytes: [u64; BYTES.len()],
+    /// Lines that find their work done, or nearly.
+    pub finished: Finished,
 }
 
 impl Coverage {
@@ -140,10 +147,17 @@ impl Coverage {
         let _ = writeln!(out, "19 for: {}", counted(&FAULTS, &self.faults));
         let _ = writeln!(out, "lines that ran: {}", counted(&LINES, &self.lines));
         let _ = writeln!(out, "of these: {}", counted(&KINDS, &self.kinds));
+        for (name, kinds, counts) in self.finished.groups() {
+            let _ = writeln!(out, "{name}: {}", counted(kinds, counts));
+        }
         let _ = writeln!(out, "many and long: {}", counted(&LIMITS, &self.limits));
         let _ = writeln!(out, "stashes of no blocks: {}", counted(&NO_BLOCKS, &self.no_blocks));
         let _ = writeln!(out, "patches that ran: {}", counted(&PATCHES, &self.patches));
-        let _ = writeln!(out, "sequences held to the model {}, runs over cuts {}, digests {}", self.sequences, self.runs, self.digests);
+        let Coverage { sequences, runs, digests, closed, .. } = self;
+        let _ = writeln!(
+            out,
+            "sequences held to the model {sequences}, runs over cuts {runs}, digests {digests}, finished lines over closed memory {closed}"
+        );
         out
     }
 
@@ -170,6 +184,9 @@ impl Coverage {
         self.called_forms.empty_ranges().for_each(|(name, n)| note(format!("in a call, {name}"), n));
         [0, 8, 11, 15].into_iter().for_each(|k| note(format!("an empty range in a list that gave {k}"), self.given_before[k]));
         BYTES.iter().zip(self.bytes).for_each(|(name, n)| note(name.to_string(), n));
+        for (name, kinds, counts) in self.finished.groups() {
+            kinds.iter().zip(counts).for_each(|(kind, n)| note(format!("{name}: {kind}"), *n));
+        }
         for (name, n) in [
             ("done", self.done),
             ("more", self.more),
@@ -180,6 +197,7 @@ impl Coverage {
             ("a sequence held to the model", self.sequences),
             ("a run over cuts", self.runs),
             ("a digest", self.digests),
+            ("a finished line over closed memory", self.closed),
         ] {
             note(name.to_string(), n);
         }
@@ -196,8 +214,8 @@ impl Coverage {
         }
     }
 
-    /// What a call gave, with all that it was lent as it left it.
-    pub fn call(&mut self, list: &[u8], areas: &Areas, piece: &[u8], before: &State, answer: &Answer) {
+    /// What a call gave, with all that it was lent as it left it, and the areas as it found them where that matters.
+    pub fn call(&mut self, list: &[u8], areas: &Areas, piece: &[u8], kept: Option<Kept>, before: &State, answer: &Answer) {
         match answer.outcome {
             Outcome::Done => self.done += 1,
             Outcome::More => self.more += 1,
@@ -240,14 +258,21 @@ impl Coverage {
         }
         self.within += (answer.outcome == Outcome::More && answer.state.into % BLOCK != 0) as u64;
         add(&mut self.no_blocks, &no_blocks::called(list, before, answer));
-        self.ran(&list[before.at..answer.state.at], before, areas.patch);
+        let skipped = kept.map_or(Vec::new(), |kept| self.finished.called(list, areas, piece, kept, before, answer));
+        self.ran(&list[before.at..answer.state.at], &skipped, before, areas.patch);
     }
 
-    /// The lines that a call finished, from a possible state on.
-    fn ran(&mut self, lines: &[u8], from: &State, patch: &[u8]) {
+    /// The lines that a call finished, from a possible state on, but for those that it skipped.
+    fn ran(&mut self, lines: &[u8], skipped: &[usize], from: &State, patch: &[u8]) {
         let mut held: Vec<(Vec<u8>, u64)> = (0..from.count).map(|k| (hash_of(from, k), from.sizes[k] as u64)).collect();
         let mut freed: Vec<Vec<u8>> = Vec::new();
+        let mut next = from.at;
         for line in lines.split(|c| *c == b'\n') {
+            let at = next;
+            next += line.len() + 1;
+            if skipped.contains(&at) {
+                continue;
+            }
             let fields: Vec<&[u8]> = line.split(|c| *c == b' ').collect();
             let sets: Vec<Vec<(u64, u64)>> = fields.iter().filter_map(|field| ranges(field)).collect();
             let mut kinds = [false; KINDS.len()];

@@ -11,6 +11,7 @@ extern "C" {
 
 const PAGE: usize = 4_096;
 const NONE: c_int = 0;
+const READ: c_int = 1;
 const READ_WRITE: c_int = 3;
 const PRIVATE_ANONYMOUS: c_int = 0x22;
 
@@ -26,15 +27,28 @@ impl Guarded {
     /// Room for this many bytes, rounded up to pages.
     pub fn new(bytes: usize) -> Guarded {
         let room = bytes.div_ceil(PAGE) * PAGE;
-        // SAFETY: a fresh mapping, opened between its first and last page.
-        unsafe {
-            let base = mmap(std::ptr::null_mut(), room + 2 * PAGE, NONE, PRIVATE_ANONYMOUS, -1, 0);
-            assert!(base as isize != -1, "no memory for guarded bytes");
-            let base = base as *mut u8;
-            if room > 0 {
-                assert!(mprotect(base.add(PAGE) as *mut c_void, room, READ_WRITE) == 0);
-            }
-            Guarded { base, room, start: PAGE, length: 0 }
+        // SAFETY: a fresh mapping.
+        let base = unsafe { mmap(std::ptr::null_mut(), room + 2 * PAGE, NONE, PRIVATE_ANONYMOUS, -1, 0) };
+        assert!(base as isize != -1, "no memory for guarded bytes");
+        let mut guarded = Guarded { base: base as *mut u8, room, start: PAGE, length: 0 };
+        guarded.open();
+        guarded
+    }
+
+    /// The bytes may be read and written.
+    pub fn open(&mut self) {
+        self.protect(READ_WRITE);
+    }
+
+    /// They may be read, or not even that, until they are opened.
+    pub fn close(&mut self, readable: bool) {
+        self.protect(if readable { READ } else { NONE });
+    }
+
+    fn protect(&mut self, protection: c_int) {
+        if self.room > 0 {
+            // SAFETY: the pages between the first and the last of the mapping.
+            assert!(unsafe { mprotect(self.base.add(PAGE) as *mut c_void, self.room, protection) } == 0);
         }
     }
 

@@ -2,28 +2,50 @@
 
 use crate::Hash;
 
+const CHUNK: usize = 64;
+
 /// The SHA-1 digest of the bytes.
 pub fn digest(bytes: &[u8]) -> Hash {
-    let mut h: [u32; 5] = [0x67452301, 0xefcdab89, 0x98badcfe, 0x10325476, 0xc3d2e1f0];
-    let mut chunks = bytes.chunks_exact(64);
-    for chunk in &mut chunks {
-        compress(&mut h, chunk);
+    let (whole, rest) = bytes.split_at(bytes.len() - bytes.len() % CHUNK);
+    let mut sha1 = Sha1::new();
+    sha1.add(whole);
+    sha1.end(rest)
+}
+
+/// The digest of bytes that lie in several places: parts of whole chunks, as blocks are, and what is left over at the end.
+pub(crate) struct Sha1 {
+    h: [u32; 5],
+    length: u64,
+}
+
+impl Sha1 {
+    pub(crate) fn new() -> Sha1 {
+        Sha1 { h: [0x67452301, 0xefcdab89, 0x98badcfe, 0x10325476, 0xc3d2e1f0], length: 0 }
     }
-    let rest = chunks.remainder();
-    let mut tail = [0u8; 128];
-    tail[..rest.len()].copy_from_slice(rest);
-    tail[rest.len()] = 0x80;
-    let end = if rest.len() < 56 { 64 } else { 128 };
-    let bits = (bytes.len() as u64).wrapping_mul(8);
-    tail[end - 8..end].copy_from_slice(&bits.to_be_bytes());
-    for chunk in tail[..end].chunks_exact(64) {
-        compress(&mut h, chunk);
+
+    pub(crate) fn add(&mut self, part: &[u8]) {
+        for chunk in part.chunks_exact(CHUNK) {
+            compress(&mut self.h, chunk);
+        }
+        self.length = self.length.wrapping_add(part.len() as u64);
     }
-    let mut out = [0u8; 20];
-    for (word, four) in h.iter().zip(out.chunks_exact_mut(4)) {
-        four.copy_from_slice(&word.to_be_bytes());
+
+    pub(crate) fn end(mut self, rest: &[u8]) -> Hash {
+        let mut tail = [0u8; 2 * CHUNK];
+        tail[..rest.len()].copy_from_slice(rest);
+        tail[rest.len()] = 0x80;
+        let end = if rest.len() < CHUNK - 8 { CHUNK } else { 2 * CHUNK };
+        let bits = self.length.wrapping_add(rest.len() as u64).wrapping_mul(8);
+        tail[end - 8..end].copy_from_slice(&bits.to_be_bytes());
+        for chunk in tail[..end].chunks_exact(CHUNK) {
+            compress(&mut self.h, chunk);
+        }
+        let mut out = [0u8; 20];
+        for (word, four) in self.h.iter().zip(out.chunks_exact_mut(4)) {
+            four.copy_from_slice(&word.to_be_bytes());
+        }
+        out
     }
-    out
 }
 
 fn compress(h: &mut [u32; 5], chunk: &[u8]) {

@@ -218,31 +218,51 @@ fn digest_times<S: Side>(bytes: &[u8], repeats: u32) -> Duration {
 const MOVES: usize = 2_000;
 const PART: usize = 16;
 
+/// Whether these blocks of an image, in one row, have this hash.
+fn has(image: &[u8], start: usize, hash: &Hash) -> bool {
+    digest(&image[start * BLOCK..(start + PART) * BLOCK]) == *hash
+}
+
+/// No two targets share a block, and no source is written, so that the list has everything to do over the first image and nothing over its own
+/// result.
 fn moves<S: Side>() {
-    let blocks = 4_096;
-    let start = some_bytes(blocks * BLOCK);
+    let sources = 4_096;
+    let start = some_bytes((sources + MOVES * PART) * BLOCK);
     let mut rng = Rng::new(3);
+    let mut targets: Vec<usize> = (0..MOVES).map(|k| sources + k * PART).collect();
+    rng.shuffle(&mut targets);
     let mut image = start.clone();
+    let mut hashes = Vec::new();
     let mut list = format!("3\n{}\n0\n0\n", MOVES * PART);
-    for _ in 0..MOVES {
-        let (from, to) = (rng.below(blocks - PART), rng.below(blocks - PART));
+    for to in &targets {
+        let from = rng.below(sources - PART);
         let hash = digest(&image[from * BLOCK..(from + PART) * BLOCK]);
+        assert!(!has(&image, *to, &hash), "a line is finished before it runs");
         image.copy_within(from * BLOCK..(from + PART) * BLOCK, to * BLOCK);
         list += &format!("move {} 2,{to},{} {PART} 2,{from},{}\n", hex(&hash), to + PART, from + PART);
+        hashes.push(hash);
     }
+    assert!(targets.iter().zip(&hashes).all(|(to, hash)| has(&image, *to, hash)), "a line is not finished after it ran");
     // Each side on an image and a work area of its own.
     let (mut ours_image, mut plain_image) = (start.clone(), start.clone());
     let (mut ours_work, mut plain_work) = (vec![0; PART * BLOCK], vec![0; PART * BLOCK]);
     let list = list.as_bytes();
-    let times = turns(
-        || run_times::<S>(list, &start, Areas { image: &mut ours_image, stash: &mut [], work: &mut ours_work, result: &mut [], patch: &[] }),
-        || {
-            let areas = Areas { image: &mut plain_image, stash: &mut [], work: &mut plain_work, result: &mut [], patch: &[] };
-            run_times::<Plain>(list, &start, areas)
-        },
-    );
-    assert!(ours_image == plain_image && ours_image == image, "the images differ");
-    line("2,000 moves of 16 blocks, opened and run", times, MOVES * PART * BLOCK);
+    for (name, from) in [("2,000 moves of 16 blocks, none skipped", &start), ("the same list again, all skipped", &image)] {
+        let untouched = vec![0x5a; PART * BLOCK];
+        ours_work.copy_from_slice(&untouched);
+        plain_work.copy_from_slice(&untouched);
+        let times = turns(
+            || run_times::<S>(list, from, Areas { image: &mut ours_image, stash: &mut [], work: &mut ours_work, result: &mut [], patch: &[] }),
+            || {
+                let areas = Areas { image: &mut plain_image, stash: &mut [], work: &mut plain_work, result: &mut [], patch: &[] };
+                run_times::<Plain>(list, from, areas)
+            },
+        );
+        assert!(ours_image == plain_image && ours_image == image, "the images differ");
+        let finished = *from == image;
+        assert!(ours_work == plain_work && (ours_work == untouched) == finished, "the work areas differ");
+        line(name, times, MOVES * PART * BLOCK);
+    }
 }
 
 /// Opens the list and runs it to its end, from this image.
@@ -274,7 +294,8 @@ fn patch_in(source: &[u8], target: &[u8], add: usize, extra: usize) -> Vec<u8> {
     patch_of(&records)
 }
 
-/// Both hashes are in these times, as in every run of such a line; the last one is of reading records, and of the hash of one block.
+/// Three hashes are in these times, as in every run of such a line: of the target as it was, which is another, of the source and of the result. The
+/// last one is of reading records, and of the first two for one block.
 fn patches<S: Side>() {
     let blocks = 4_096;
     let start = some_bytes(blocks * BLOCK);
@@ -291,7 +312,10 @@ fn patches<S: Side>() {
         let mut list = format!("3\n{}\n0\n0\n", lines * PART);
         for _ in 0..lines {
             let [from, like, to] = [(); 3].map(|()| rng.below(blocks - PART));
-            let [source, target] = [from, like].map(|at| image[at * BLOCK..(at + PART) * BLOCK].to_vec());
+            let [source, mut target] = [from, like].map(|at| image[at * BLOCK..(at + PART) * BLOCK].to_vec());
+            if has(&image, to, &digest(&target)) {
+                target[0] ^= 1;
+            }
             let records = patch_in(&source, &target, add, extra);
             let hashes = format!("{} {}", hex(&digest(&source)), hex(&digest(&target)));
             list += &format!("bsdiff {} {} {hashes} 2,{to},{} {PART} 2,{from},{}\n", patch.len(), records.len(), to + PART, from + PART);
@@ -313,9 +337,9 @@ fn patches<S: Side>() {
         line(&format!("{lines} patches of 16 blocks, {name}"), times, lines * PART * BLOCK);
     }
 
-    let h = hex(&digest(&start[..BLOCK]));
+    let (h, t) = (hex(&digest(&start[..BLOCK])), hex(&digest(&start[BLOCK..2 * BLOCK])));
     let patch = patch_of(&vec![Record { add: Vec::new(), extra: Vec::new(), seek: 1 }; 1_000_000]);
-    let list = format!("3\n1\n0\n0\nbsdiff 0 {} {h} {h} 2,0,1 1 2,0,1\n", patch.len());
+    let list = format!("3\n1\n0\n0\nbsdiff 0 {} {h} {t} 2,0,1 1 2,0,1\n", patch.len());
     let list = list.as_bytes();
     let times = turns(
         || {

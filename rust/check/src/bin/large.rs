@@ -1,7 +1,7 @@
 //! Real sizes: an image of 65,536 blocks, thousands of commands, stashes of thousands of blocks and a list of several MiB,
 //! the library compared with the plain implementation after every call; then positions at the far end of the largest image and of patch data
 //! past 32 bits, as many stashes and blocks of a source as there may be, a line as long as a list may be with a fault anywhere in it, patches of
-//! the largest areas, and sparse files over large images.
+//! the largest areas, the longest lines that find their work done, and sparse files over large images.
 //! usage: large [--seed S] [--commands N] [--self]   (--self takes the slow model in the library's place)
 
 use check::generate::patch::{patch_of, Record};
@@ -268,6 +268,10 @@ fn most_stashes(other: &dyn Implementation) -> Result<(), String> {
     if state.count != MOST_STASHES || state.sizes.iter().any(|blocks| *blocks != n) {
         return Err(format!("the most stashes: {} held", state.count));
     }
+    // Over its own result, which has a part of the move's source no more, that line is finished, and stashes alone go through the work area.
+    let after = expected.image.clone();
+    let again = Stands { work: [row(0), &vec![2; area - n * BLOCK]].concat(), ..expected };
+    over_largest(other, "the most stashes again", &list, &after, b"", &again)?;
     // One more, though there is room for its block.
     let shorter = format!("{list}free {}\nstash {} 2,0,{}\n", names[1], hex(&digest(b"shorter")), n - 1);
     let more = format!("{shorter}stash {} 2,0,1\n", hex(&digest(b"more")));
@@ -280,7 +284,10 @@ fn most_stashes(other: &dyn Implementation) -> Result<(), String> {
             }
         }
     }
-    println!("256 stashes of 128 blocks each, and a move of 32,768 blocks of half of them and of the image; {:.2} s", start.elapsed().as_secs_f64());
+    println!(
+        "256 stashes of 128 blocks each, and a move of 32,768 blocks of half of them and of the image, run and finished; {:.2} s",
+        start.elapsed().as_secs_f64()
+    );
     Ok(())
 }
 
@@ -349,13 +356,22 @@ fn largest_patch(other: &dyn Implementation) -> Result<(), String> {
             if answer.outcome.number() != want || !good {
                 return Err(format!("a patch of {name}: {}, areas as they should be: {good}", said(&answer)));
             }
+            if want == 0 {
+                // The target has its hash by now, and the areas stay.
+                let (mut work, mut result) = (vec![3; work.len()], vec![4; result.len()]);
+                let areas = Areas { image: &mut now, stash: &mut [], work: &mut work, result: &mut result, patch: &patch };
+                let again = on.run(list.as_bytes(), areas, b"", &[]);
+                if again != answer || now != target || work.iter().any(|byte| *byte != 3) || result.iter().any(|byte| *byte != 4) {
+                    return Err(format!("a patch of {name} again: {}", said(&again)));
+                }
+            }
             ends.push(answer);
         }
         if ends[0] != ends[1] {
             return Err(format!("a patch of {name}: {} and {}", said(&ends[0]), said(&ends[1])));
         }
     }
-    println!("patches over 4,096 blocks of source and of target");
+    println!("patches over 4,096 blocks of source and of target, run and finished");
     Ok(())
 }
 

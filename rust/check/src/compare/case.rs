@@ -63,14 +63,17 @@ impl Checker<'_> {
                 same_at_the_ends(&mut rng, &mut state);
             }
         }
-        self.lend(&lent);
         let mut data = self.blocks.lay(&world.data);
         match rng.below(10) {
             0..=2 => data.truncate(rng.below(data.len() + 1)),
             3 => data.extend((0..rng.between(1, 5_000)).map(|k| k as u8)),
             _ => {}
         }
+        if accepted && sizes.stashes == 0 && rng.one_in(8) {
+            self.closed(&lent, &data, state)?;
+        }
         let pieces = Pieces::cut(&mut rng, data);
+        self.lend(&lent);
         if !accepted && state.refusal.number != 0 && rng.percent(50) {
             return self.run(&lent, &pieces);
         }
@@ -86,6 +89,7 @@ impl Checker<'_> {
         let Pieces { data, cuts } = pieces;
         let steps = cuts.len() + 1 + rng.pick(&[0, 0, 1, 2]);
         let when = if trouble { rng.below(steps) } else { usize::MAX };
+        let opened = state;
         let mut done = false;
         for (step, mut piece) in pieces.each().chain(repeat(&[][..])).take(steps).enumerate() {
             if step > cuts.len() && rng.percent(50) {
@@ -108,10 +112,25 @@ impl Checker<'_> {
             done |= answer.outcome == Outcome::Done;
             state = answer.state;
         }
+        if !trouble && rng.percent(40) {
+            self.again(lent, pieces, opened)?;
+        }
         Ok(())
     }
 
-    /// Calls one after another, then the model over all pieces joined, and a run over the same cuts.
+    /// The list once more from where it began, over what it left: what is finished by then is passed over.
+    fn again(&mut self, mut lent: Lent, pieces: &Pieces, mut state: State) -> Result<(), String> {
+        self.coverage.finished.again_begins();
+        let mut number = 0;
+        for piece in pieces.each() {
+            let answer = self.call(&mut lent, piece, state)?;
+            (number, state) = (answer.outcome.number(), answer.state);
+        }
+        self.coverage.finished.again_ended(number);
+        Ok(())
+    }
+
+    /// Calls one after another, then the model over all pieces joined, sometimes the list once more, and a run over the same cuts.
     fn sequence(&mut self, rng: &mut Rng, lent: Lent, pieces: &Pieces, opened: State) -> Result<(), String> {
         let mut now = lent.clone();
         let mut state = opened;
@@ -136,6 +155,9 @@ impl Checker<'_> {
         let areas_differ = fresh.image != now.image || fresh.stash != now.stash || fresh.work != now.work || fresh.result != now.result;
         if whole != last || areas_differ {
             return Err(format!("the calls end otherwise than the model: {} and {}", answer_text(&last), answer_text(&whole)));
+        }
+        if rng.percent(40) {
+            self.again(now, pieces, opened)?;
         }
         if rng.percent(60) {
             self.run(&lent, pieces)?;
@@ -265,7 +287,7 @@ fn any_sizes(rng: &mut Rng) -> Sizes {
         1..=3 => Sizes::small(rng.between(8, 40), rng.between(40, 130), rng.between(60, 200)),
         // No command has a block then.
         4..=8 => Sizes::small(0, rng.below(3), rng.below(6)),
-        _ => Sizes::small(rng.between(1, 12), rng.between(0, 8), rng.between(0, 10)),
+        _ => Sizes::small(rng.between(1, 12), rng.between(0, 8), rng.between(0, 12)),
     }
 }
 
@@ -278,6 +300,10 @@ fn any_list(rng: &mut Rng, world: &World, stashes: usize) -> (Vec<u8>, Vec<u8>) 
         if rng.percent(75) {
             world.one_stash_too_many(rng);
         }
+        return (world.list(), world.patch);
+    }
+    if !world.refused.is_empty() && rng.one_in(5) {
+        world.put_refused(rng);
         return (world.list(), world.patch);
     }
     if world.has_patch() && rng.one_in(3) {

@@ -1,12 +1,13 @@
 //! Runs one seeded case on the plain implementation and on another, and compares everything after every call.
 
 mod case;
+mod closed;
 mod lines;
 mod odd;
 mod reading;
 mod sparse;
 
-use crate::coverage::Coverage;
+use crate::coverage::{Coverage, Kept};
 use crate::generate::{Blocks, Pieces};
 use crate::guard::Guarded;
 use crate::{hex, Implementation, Plain};
@@ -202,13 +203,14 @@ impl<'a> Checker<'a> {
             format!("call: {}\n  piece {}\n{text}\n  state {}", lent.text(), hex(piece), state_text(&state))
         });
         let (list, areas) = lent.areas();
+        let kept = Kept::of(list, &areas, &state);
         let ours = Plain.call(list, areas, piece, state);
         let (other, list, areas, others_piece) = self.others();
         let theirs = other.call(list, areas, others_piece, state);
-        let (list, areas) = lent.areas();
-        self.coverage.call(list, &areas, piece, &state, &ours);
         self.note(|| format!("  plain: {}\n  other: {}", answer_text(&ours), answer_text(&theirs)));
         self.same(lent, piece, &ours, &theirs, "call")?;
+        let (list, areas) = lent.areas();
+        self.coverage.call(list, &areas, piece, kept, &state, &ours);
         Ok(ours)
     }
 

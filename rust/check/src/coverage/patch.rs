@@ -75,6 +75,21 @@ impl Line<'_> {
         records(self.patch(data), self.target).err()
     }
 
+    /// What it makes of the source, if it is good.
+    pub(super) fn makes(&self, data: &[u8], source: &[u8]) -> Option<Vec<u8>> {
+        let patch = self.patch(data);
+        let mut made = Vec::new();
+        let mut at = 0;
+        for Record { add, extra, position, .. } in records(patch, self.target).ok()? {
+            let (added, copied) = patch[at + 26..][..(add + extra) as usize].split_at(add as usize);
+            let old = |k: usize| usize::try_from(position + k as i128).ok().and_then(|k| source.get(k)).unwrap_or(&0);
+            made.extend(added.iter().enumerate().map(|(k, byte)| byte.wrapping_add(*old(k))));
+            made.extend_from_slice(copied);
+            at += 26 + (add + extra) as usize;
+        }
+        Some(made)
+    }
+
     /// Which of PATCHES it has, if it is good.
     pub(super) fn has(&self, data: &[u8]) -> [bool; PATCHES.len()] {
         let Ok(all) = records(self.patch(data), self.target) else { return [false; PATCHES.len()] };

@@ -111,6 +111,14 @@ impl Command {
         }
     }
 
+    /// Target and hash of what a `move` or a `bsdiff` writes.
+    pub(super) fn made(&mut self) -> Option<(&mut Set, &mut Hash)> {
+        match self {
+            Command::Move { target, hash, .. } | Command::Bsdiff { target, result: hash, .. } => Some((target, hash)),
+            _ => None,
+        }
+    }
+
     /// The source of a `move` or a `bsdiff`, and N.
     pub(super) fn source(&self) -> Option<(&Source, u32)> {
         match self {

@@ -1,15 +1,17 @@
 //! Good lists.
 
 use super::command::{Command, Source};
+use super::finished::Ran;
 use super::patch::differ;
 use super::sets::{any_set, blocks_of, place_set, Set};
 use super::{Blocks, Rng, Sizes, World};
 use reference::{Hash, MOST_RESULT, MOST_STASHES};
 
 /// What a good list does, followed block by block while it is made.
-struct Follow {
-    image: Vec<u8>,
-    held: Vec<(Hash, Vec<u8>)>,
+pub(super) struct Follow {
+    pub(super) image: Vec<u8>,
+    pub(super) held: Vec<(Hash, Vec<u8>)>,
+    pub(super) ran: Vec<Ran>,
     sizes: Sizes,
 }
 
@@ -18,24 +20,29 @@ impl Follow {
         self.held.iter().map(|stash| stash.1.len()).sum()
     }
 
-    fn write(&mut self, set: &Set, from: &[u8]) {
+    pub(super) fn write(&mut self, set: &Set, from: &[u8]) {
         for (block, id) in blocks_of(set).zip(from) {
             self.image[block] = *id;
         }
     }
 
-    fn read(&self, set: &Set) -> Vec<u8> {
+    pub(super) fn read(&self, set: &Set) -> Vec<u8> {
         blocks_of(set).map(|block| self.image[block]).collect()
     }
 
     /// How many blocks a command gets, within its room; none where there is no room for one, or no block in the image.
-    fn some(&self, rng: &mut Rng, room: usize) -> Option<usize> {
+    pub(super) fn some(&self, rng: &mut Rng, room: usize) -> Option<usize> {
         if room == 0 || self.image.is_empty() {
             return None;
         }
         let Sizes { most, often, .. } = self.sizes;
         let most = if often == 1 || rng.one_in(often) { most } else { most / 64 };
         Some(rng.between(1, room.min(most)))
+    }
+
+    /// Whether there is patch data enough.
+    pub(super) fn is_enough(&self, patch: &[u8]) -> bool {
+        patch.len() > self.sizes.patch
     }
 
     /// Some of the held stashes, now and then many, which together fit the work area; one may come twice.
@@ -79,6 +86,7 @@ impl World {
             commands: Vec::new(),
             data: Vec::new(),
             patch: Vec::new(),
+            refused: Vec::new(),
         };
         if rng.percent(30) {
             world.work = rng.between(sizes.stashes.min(1), sizes.area);
@@ -89,7 +97,7 @@ impl World {
         if rng.percent(30) {
             world.result = rng.between(0, most_result);
         }
-        let mut follow = Follow { image, held: Vec::new(), sizes: *sizes };
+        let mut follow = Follow { image, held: Vec::new(), ran: Vec::new(), sizes: *sizes };
         for block in 0..sizes.stashes {
             let ids = vec![follow.image[block]];
             let hash = blocks.digest(&ids);
@@ -100,21 +108,25 @@ impl World {
         let mut bytes = 40;
         let stash_weight = rng.pick(&[1, 4, 8]);
         for _ in 0..sizes.commands {
-            let command = match rng.below(11 + stash_weight) {
+            if world.refused.len() < 4 && rng.one_in(2) {
+                world.note_refused(rng, blocks, &follow);
+            }
+            let before = world.commands.len();
+            let command = match rng.below(15 + stash_weight) {
                 0 => good_zero(rng, &mut follow),
                 1 | 2 => world.good_new(rng, letters, &mut follow),
                 3 | 4 => good_free(rng, &mut follow),
                 5..=8 => world.good_move(rng, blocks, &mut follow),
                 9 | 10 => world.good_bsdiff(rng, blocks, letters, &mut follow),
+                11..=13 => world.good_finished(rng, blocks, &follow),
+                14 => world.good_near(rng, blocks, &mut follow),
                 _ => world.good_stash(rng, blocks, &mut follow),
             };
-            if let Some(command) = command {
-                if sizes.bytes < usize::MAX {
-                    let mut text = Vec::new();
-                    command.text(&mut text);
-                    bytes += text.len();
-                }
-                world.commands.push(command);
+            world.commands.extend(command);
+            if sizes.bytes < usize::MAX {
+                let mut text = Vec::new();
+                world.commands[before..].iter().for_each(|command| command.text(&mut text));
+                bytes += text.len();
             }
             most = (most.0.max(follow.held.len()), most.1.max(follow.blocks()));
             if bytes > sizes.bytes {
@@ -153,34 +165,49 @@ impl World {
     fn good_move(&self, rng: &mut Rng, blocks: &mut Blocks, follow: &mut Follow) -> Option<Command> {
         let (whole, source) = self.good_source(rng, follow)?;
         let target = any_set(rng, whole.len(), follow.image.len());
-        let hash = blocks.digest(&whole);
-        follow.write(&target, &whole);
-        Some(Command::Move { hash, target, n: whole.len() as u32, source })
+        Some(follow.move_of(blocks, (&whole, source), target))
     }
 
     /// A target of any size, and a patch that makes it of the source; a move where there is patch data enough.
     fn good_bsdiff(&mut self, rng: &mut Rng, blocks: &mut Blocks, letters: usize, follow: &mut Follow) -> Option<Command> {
-        if self.patch.len() > follow.sizes.patch {
+        if follow.is_enough(&self.patch) {
             return self.good_move(rng, blocks, follow);
         }
         let (whole, source) = self.good_source(rng, follow)?;
         let k = follow.some(rng, self.result)?;
         let target = any_set(rng, k, follow.image.len());
         let ids: Vec<u8> = (0..k).map(|j| if rng.percent(30) { *whole.get(j).unwrap_or(&7) } else { rng.between(0, letters) as u8 }).collect();
-        let records = if blocks.is_made_up() { Vec::new() } else { differ(rng, &blocks.lay(&whole), &blocks.lay(&ids)) };
+        Some(self.bsdiff_of(rng, blocks, (&whole, source), (&ids, target), follow))
+    }
+
+    /// A `bsdiff` of this source, which makes these blocks for its target.
+    pub(super) fn bsdiff_of(
+        &mut self,
+        rng: &mut Rng,
+        blocks: &mut Blocks,
+        (whole, source): (&[u8], Source),
+        (ids, target): (&[u8], Set),
+        follow: &mut Follow,
+    ) -> Command {
+        let (from, bytes) = self.put_patch(rng, blocks, whole, ids);
+        let (hash, result) = (blocks.digest(whole), blocks.digest(ids));
+        follow.runs(Command::Bsdiff { from, bytes, hash, result, target, n: whole.len() as u32, source }, whole, ids)
+    }
+
+    /// A patch that makes these blocks of those: where it starts in the patch data, and its bytes.
+    pub(super) fn put_patch(&mut self, rng: &mut Rng, blocks: &Blocks, whole: &[u8], ids: &[u8]) -> (u32, u32) {
+        let records = if blocks.is_made_up() { Vec::new() } else { differ(rng, &blocks.lay(whole), &blocks.lay(ids)) };
         // Sometimes bytes lie between two patches that belong to none.
         for _ in 0..rng.pick(&[0, 0, 1, 7]) {
             self.patch.push(rng.next_u64() as u8);
         }
         let from = self.patch.len() as u32;
         records.iter().for_each(|record| record.write(&mut self.patch));
-        let bytes = self.patch.len() as u32 - from;
-        follow.write(&target, &ids);
-        Some(Command::Bsdiff { from, bytes, hash: blocks.digest(&whole), result: blocks.digest(&ids), target, n: whole.len() as u32, source })
+        (from, self.patch.len() as u32 - from)
     }
 
     /// A source in one of the three forms, and its blocks put together.
-    fn good_source(&self, rng: &mut Rng, follow: &Follow) -> Option<(Vec<u8>, Source)> {
+    pub(super) fn good_source(&self, rng: &mut Rng, follow: &Follow) -> Option<(Vec<u8>, Source)> {
         let named = if rng.percent(65) { follow.some_held(rng, self.work) } else { Vec::new() };
         let from_stash: usize = named.iter().map(|k| follow.held[*k].1.len()).sum();
         let room = self.work - from_stash;

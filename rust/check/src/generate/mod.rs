@@ -3,6 +3,7 @@
 mod blocks;
 mod command;
 mod damage;
+mod finished;
 mod good;
 mod ill;
 mod lines;

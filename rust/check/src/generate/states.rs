@@ -131,8 +131,10 @@ fn without_blocks(rng: &mut Rng, state: &mut State, list: &[u8], starts: &[usize
         (0..starts.len()).filter(|k| list[starts[*k]..].starts_with(word) && !stashes_named(&list[starts[*k]..]).is_empty()).collect()
     };
     let mut kinds = [&b"free "[..], b"move ", b"bsdiff ", b"stash "].map(of);
-    // Nearly every list that has the others has the last.
-    rng.shuffle(&mut kinds[..3]);
+    // Nearly every list that has the others has the last, and few have the first.
+    if rng.percent(80) {
+        rng.shuffle(&mut kinds[..3]);
+    }
     let Some(lines) = kinds.iter().find(|lines| !lines.is_empty()) else { return };
     let k = rng.pick(lines);
     (state.at, state.line, state.into, state.count) = (starts[k], k + 1, 0, 0);

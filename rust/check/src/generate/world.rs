@@ -15,6 +15,8 @@ pub struct World {
     pub commands: Vec<Command>,
     pub data: Vec<u8>,
     pub patch: Vec<u8>,
+    /// Lines that it does not have: each may stand before the command of this number, and is refused there.
+    pub refused: Vec<(usize, Command)>,
 }
 
 /// How large a world may be: blocks of the image and of an area, commands, blocks of one command, bytes of the list and of the patch data. One

@@ -192,6 +192,12 @@ impl Run<'_> {
         digest(&self.work[..n * BLOCK])[..] == *hash
     }
 
+    /// The target's blocks, joined in the written order, have this hash already.
+    fn finished(&self, target: &Ranges, hash: &[u8]) -> bool {
+        let joined: Vec<u8> = blocks(target).into_iter().flat_map(|block| &self.image[block * BLOCK..(block + 1) * BLOCK]).copied().collect();
+        digest(&joined)[..] == *hash
+    }
+
     fn zeros(&mut self, target: &Ranges) {
         for block in blocks(target) {
             self.image[block * BLOCK..(block + 1) * BLOCK].fill(0);
@@ -307,6 +313,8 @@ pub fn call(list: &[u8], areas: Areas, piece: &[u8], state: State) -> Answer {
                 true => None,
                 false => return run.ends(Outcome::More),
             },
+            Ok(Command::Move { hash, target, .. }) if run.finished(&target, &hash) => None,
+            Ok(Command::Bsdiff { result, target, .. }) if run.finished(&target, &result) => None,
             Ok(Command::Move { hash, target, n, source }) => match run.source(&held, &hash, n as usize, &source) {
                 true => run.moved(&target, n as usize),
                 false => Some(16),

@@ -4,7 +4,8 @@ use super::check::{check, Marks};
 use super::command::{decode, Bsdiff, Command, Move};
 use super::text::{Set, LEAST};
 use super::{header, open, patch, Header};
-use crate::{digest, Answer, Areas, Lengths, Outcome, Refusal, State, BLOCK, MOST_STASHES};
+use crate::sha1::Sha1;
+use crate::{digest, Answer, Areas, Hash, Lengths, Outcome, Refusal, State, BLOCK, MOST_STASHES};
 
 /// How a call ended, and the bytes of the piece that it took.
 #[derive(Clone, Copy, PartialEq, Eq, Debug)]
@@ -103,10 +104,16 @@ fn run_command(list: &[u8], areas: &mut Areas, piece: &[u8], state: &mut State, 
         }
         Command::New(target) => return Ok(run_new(list, areas.image, piece, state, taken, target)),
         Command::Move(line) => {
+            if holds(list, areas.image, &line.target, &line.hash) {
+                return Ok(true);
+            }
             gather(list, areas, state, line)?;
             spread(list, areas.image, areas.work, &line.target);
         }
         Command::Bsdiff(Bsdiff { from, bytes, result, line }) => {
+            if holds(list, areas.image, &line.target, result) {
+                return Ok(true);
+            }
             gather(list, areas, state, line)?;
             let records = &areas.patch[*from as usize..][..*bytes as usize];
             let target = &mut areas.result[..line.target.blocks as usize * BLOCK];
@@ -163,6 +170,16 @@ fn run_new(list: &[u8], image: &mut [u8], piece: &[u8], state: &mut State, taken
     }
     state.into = 0;
     true
+}
+
+/// Whether the target has this hash already, so that its line has nothing left to do. It is hashed where it lies, range by range in the written
+/// order.
+fn holds(list: &[u8], image: &[u8], target: &Set, hash: &Hash) -> bool {
+    let mut sha1 = Sha1::new();
+    for (start, end) in target.pairs(list) {
+        sha1.add(&image[start * BLOCK..end * BLOCK]);
+    }
+    sha1.end(&[]) == *hash
 }
 
 /// The area's first blocks go over the target, in the written order.

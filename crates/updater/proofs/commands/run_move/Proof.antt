@@ -22,6 +22,12 @@ start c = c .before .before .before .before .before .before
 abbrev looked : tie.After-has-hash → tie.After-set-has-hash
 looked c = c .before .before .before .before .before .before .before .before
 
+abbrev unfinished : tie.After-has-hash → tie.Else1
+unfinished c = c .before .before .before .before .before .before .before
+
+abbrev filled : tie.After-has-hash → tie.After-put-together
+filled c = c .before .before .before .before
+
 abbrev stashes : tie.Start → List Stash
 stashes s = heldIn (tableAt (s .args .hashes .now) (s .args .sizes .now) (s .args .count))
 
@@ -30,8 +36,8 @@ areas s = areasOf (s .args .image .now) (s .args .stash .now) (s .args .work .no
 
 -- the work area is as long as it was
 kept : (c : tie.After-has-hash) →
-    length (c .before .before .before .before .put-together .last .1 .1 .0) ≡ length (start (looked c) .args .work .now)
-kept c = c .before .before .before .before .put-together .kept .1 .1 .0
+    length (filled c .put-together .last .1 .1 .0) ≡ length (start (looked c) .args .work .now)
+kept c = filled c .put-together .kept .1 .1 .0
 
 -- a target that has not the hash: the command goes on
 goes-on : (c : tie.After-has-hash) (result patch : List ℕ) {x : Effect} →
@@ -44,24 +50,27 @@ goes-on c result patch =
     let a = s .args in
     move-unfinished (a .l .now) (stashes s) (a .hash) (areas s result patch) (a .target) (a .n) (a .source)
     (looked c .set-has-hash .ensures)
-    (c .before .before .before .before .before .before .before .if1 .left)
+    (unfinished c .if1 .left)
 
-returns : tie.Need-returns
-returns c result patch =
+finished : tie.Need-returns
+finished c result patch =
     let s = start (c .before) in
     let a = s .args in
     move-finished (a .l .now) (stashes s) (a .hash) (areas s result patch) (a .target) (a .n) (a .source)
     (c .before .set-has-hash .ensures)
     (c .if1 .taken)
 
-returns-2 : tie.Need-returns-2
-returns-2 c result patch =
+put-together-requires : tie.Need-put-together-requires
+put-together-requires c κs = search needs
+
+differs : tie.Need-returns-2
+differs c result patch =
     let h = c .before in
     let s = start (looked h) in
     let a = s .args in
     goes-on h result patch
     (move-differs (a .l .now) (stashes s) (a .hash) (areas s result patch) (a .target) (a .n) (a .source)
-    (h .before .before .before .before .put-together .ensures)
+    (filled h .put-together .ensures)
     (sym (h .has-hash .ensures) ∙ not-true _ (c .if2 .taken)))
 
 slice-aggregate-write-set : tie.Need-slice-aggregate-write-set
@@ -73,15 +82,15 @@ write-set-requires c κs =
     let r = start (looked h) .pre .1 in
     (r .goal .below, simp length-take (omega (arith, kept h, r .goal .size, r .size, r .room)))
 
-returns-3 : tie.Need-returns-3
-returns-3 c result patch =
+moved : tie.Need-returns-3
+moved c result patch =
     let e = c .before .before .before .before .before in
     let h = e .before in
     let s = start (looked h) in
     let a = s .args in
     goes-on h result patch
     (move-done (a .l .now) (stashes s) (a .hash) (areas s result patch) (a .target) (a .n) (a .source)
-    (h .before .before .before .before .put-together .ensures)
+    (filled h .put-together .ensures)
     (sym (h .has-hash .ensures) ∙ not-false _ (e .if2 .left))
     (c .before .before .write-set .ensures))
 
@@ -91,16 +100,16 @@ run-move-spec =
     (tie.spec
     (λ c κs. search needs)
     (λ c. search needs)
-    returns
-    (λ c κs. search needs)
+    finished
+    put-together-requires
     (λ c κs. search needs)
     (λ c. search needs)
     (λ c. search needs)
-    returns-2
+    differs
     (λ c. search needs)
     (λ c. search needs)
     slice-aggregate-write-set
     write-set-requires
     (λ c. search needs)
     (λ c. search needs)
-    returns-3)
+    moved)

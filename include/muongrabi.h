@@ -9,17 +9,26 @@
  *
  *     muongrabi_state state = muongrabi_open(list, list_length, image_length, stash_length, work_length, result_length, patch_length);
  *     while (there is new data, or once with none) {
- *         muongrabi_answer answer = muongrabi_call(list, list_length, image, image_length, stash, stash_length, work, work_length,
- *                                                  result, result_length, patch, patch_length, piece, piece_length, &state);
+ *         muongrabi_answer answer;
+ *         do {
+ *             answer = muongrabi_call(list, list_length, image, image_length, stash, stash_length, work, work_length,
+ *                                     result, result_length, patch, patch_length, piece, piece_length, &state);
+ *             piece += answer.taken, piece_length -= answer.taken;
+ *             if (answer.outcome == MUONGRABI_STOP) sync image and areas, then save the state, if the update is to survive a power cut;
+ *         } while (answer.outcome == MUONGRABI_STOP);
  *         if (answer.outcome != MUONGRABI_MORE) break;
  *     }
+ *
+ * To finish after a power cut: keep image and areas in storage, and the bytes of muongrabi_save beside them, replaced whole or not at all, after opening and
+ * at every stop; storage has image and areas before the saved form that speaks of them, and the saved form before the next call. Then go on with
+ * muongrabi_restore and the new data from byte state.total on. docs/POWER-CUTS.md has it on one page.
  *
  * A list without `bsdiff` needs no result area and no patch data: lend null and 0.
  *
  * A first image that comes as a sparse file: muongrabi_sparse_load(file, file_length, image, image_length), which gives 0 or a refusal number.
  *
  * For all functions: a pointer with length n names n readable bytes, writable ones for image, stash, work and result; cuts names n readable
- * numbers; state names a state and out 20 writable bytes, and these two are not null. A null pointer elsewhere names no bytes and no numbers,
+ * numbers; state names a state and out as many writable bytes as are written there, and these two are not null. A null pointer elsewhere names no bytes and no numbers,
  * whatever n is given with it. What is written (image, stash, work, result, state, out) overlaps nothing else that the same call is lent. Every
  * value of every byte, number and state field is allowed and gets an answer.
  */
@@ -37,8 +46,8 @@
 extern "C" {
 #endif
 
-#define MUONGRABI_VERSION "0.8.0"
-#define MUONGRABI_ABI 4   /* another number whenever what the archive exports changes: the layout of a struct or the parameters of a function */
+#define MUONGRABI_VERSION "0.9.0"
+#define MUONGRABI_ABI 5   /* another number whenever what the archive exports changes: the layout of a struct or the parameters of a function */
 
 /* Limits, 64 bits wide, so that blocks times bytes do not wrap. */
 #define MUONGRABI_BLOCK 4096ul          /* bytes of a block */
@@ -52,6 +61,9 @@ extern "C" {
 #define MUONGRABI_DONE 0u      /* the list is finished */
 #define MUONGRABI_MORE 1u      /* every byte of the piece is taken, and the next byte of new data is needed */
 #define MUONGRABI_REFUSED 2u   /* see the answer's number, line and byte */
+#define MUONGRABI_STOP 3u      /* stopped for saving: call on with the bytes of the piece that were not taken, and more behind them if there are */
+
+#define MUONGRABI_SAVED 7306ul /* bytes of a saved form (docs/SAVED-FORM.md) */
 
 /*
  * Refusal numbers. The line given with one is that line of the list, counted from 1, where nothing else is said.
@@ -64,7 +76,7 @@ extern "C" {
  *
  * An opening gives 1 to 15 and 18, and looks at no block and at no patch. A call gives 6 to 14 and 16 to 19, and repeats the refusal that
  * its state holds. On the list that was opened, with the state as each call left it and areas and patch data of the same lengths, it gives 16
- * and 19 only. Loading a sparse file gives 30 to 36, which have no line, and nothing else does.
+ * and 19 only. Reading a saved form gives 20. Loading a sparse file gives 30 to 36. These have no line, and nothing else gives them.
  */
 enum muongrabi_refusal_number {
     MUONGRABI_REFUSAL_AREA_SIZE = 1,         /* image, stash, work or result area not whole blocks, or over its limit; line 0 */
@@ -86,6 +98,7 @@ enum muongrabi_refusal_number {
     MUONGRABI_REFUSAL_STATE_IMPOSSIBLE = 17, /* in a call: state impossible, or the length of list, image, area or patch data changed; line 0 */
     MUONGRABI_REFUSAL_PAST_PATCH = 18,       /* bsdiff's offset and length pass the end of the patch data */
     MUONGRABI_REFUSAL_PATCH_MALFORMED = 19,  /* in a run: a patch that is read is malformed, or its result is not as long as the target */
+    MUONGRABI_REFUSAL_NO_SAVED_FORM = 20,    /* bytes that are no state's saved form: muongrabi_restore alone gives it */
 
     MUONGRABI_REFUSAL_SPARSE_HEADER = 30,     /* sparse file's header cut short, or its mark or major version another */
     MUONGRABI_REFUSAL_SPARSE_SIZES = 31,      /* its header sizes not 28 and 12, or its block size not 4096 */
@@ -99,8 +112,9 @@ enum muongrabi_refusal_number {
 /*
  * A state is impossible when the areas and the list's header would now give 1 to 5; when `at` is past the list's end, before the first
  * command line or not at a line's start (the end after an LF is one), or `line` is not that line's number; when it holds over 256
- * stashes, one hash twice, or more blocks than line 4 or the stash area; or when `into` is not 0 and the line is no good `new` (6, 8)
- * or has no more bytes than that.
+ * stashes, one hash twice, a stash of no blocks, or more blocks than line 4 or the stash area; when `into` is not 0 and the line is no good `new`
+ * (6, 8) or has no more bytes than that; when `ready` is not 0 and the line is not a `move`, `stash` or `bsdiff` free of 6 to 14 and 18; or when
+ * `stretches` is not 0 and the line is not a `free` of a stash that is held, with more stretches to move than that.
  */
 
 /* What a refusal's number means, in words for people. */
@@ -127,6 +141,7 @@ static inline const char *muongrabi_refusal_text(size_t number)
         "the state does not fit the list, the areas and the patch data of this call",
         "the line's patch ends past the patch data",
         "the patch is malformed, or what it makes is not as long as the target",
+        "the bytes are not the saved form of a state",
     };
     static const char *const texts_from_30[] = {
         "the file is no sparse file of major version 1: its header is cut short, or the mark or the version in it is another",
@@ -170,18 +185,27 @@ typedef struct muongrabi_state {
     size_t line;                 /* the current line's number */
     size_t at;                   /* where it starts in the list, in bytes from 0 */
     size_t into;                 /* bytes written so far of a `new` */
+    size_t total;                /* bytes taken since the opening, modulo 2^64: where the new data goes on */
+    size_t ready;                /* not 0: the work area, for a `bsdiff` the result area, is filled and is written by the next call */
+    size_t stretches;            /* stretches of the younger stashes that a `free` has moved down */
     muongrabi_refusal refusal;   /* what every later call repeats as it is, if its number is not 0 */
     muongrabi_lengths lengths;
 } muongrabi_state;
 
 /* What a call answers. */
 typedef struct muongrabi_answer {
-    size_t outcome;   /* MUONGRABI_DONE, MUONGRABI_MORE or MUONGRABI_REFUSED */
+    size_t outcome;   /* MUONGRABI_DONE, MUONGRABI_MORE, MUONGRABI_REFUSED or MUONGRABI_STOP */
     size_t number;    /* of the refusal, else 0 */
     size_t line;      /* of the refusal, else 0 */
     size_t byte;      /* of the list, with 3 and 6, else 0; where a held refusal is repeated, whatever it holds */
     size_t taken;     /* bytes of the piece that were used */
 } muongrabi_answer;
+
+/* What reading a saved form answers. */
+typedef struct muongrabi_restored {
+    size_t number;           /* 0, or 20 */
+    muongrabi_state state;   /* the state that was saved; with 20 all is 0 */
+} muongrabi_restored;
 
 /*
  * What the archive exports. Call it by the functions below, which have the same names: the exports want pointers that are not null even
@@ -194,6 +218,9 @@ typedef struct muongrabi_progress {
     size_t line;
     size_t at;
     size_t into;
+    size_t total;
+    size_t ready;
+    size_t stretches;
     muongrabi_refusal refusal;
     muongrabi_lengths lengths;
 } muongrabi_progress;
@@ -225,25 +252,33 @@ MUONGRABI_LAYOUT(state_count, offsetof(muongrabi_state, count) == 7168);
 MUONGRABI_LAYOUT(state_line, offsetof(muongrabi_state, line) == 7176);
 MUONGRABI_LAYOUT(state_at, offsetof(muongrabi_state, at) == 7184);
 MUONGRABI_LAYOUT(state_into, offsetof(muongrabi_state, into) == 7192);
-MUONGRABI_LAYOUT(state_refusal, offsetof(muongrabi_state, refusal) == 7200);
-MUONGRABI_LAYOUT(state_lengths, offsetof(muongrabi_state, lengths) == 7224);
-MUONGRABI_LAYOUT(state, sizeof(muongrabi_state) == 7272);
+MUONGRABI_LAYOUT(state_total, offsetof(muongrabi_state, total) == 7200);
+MUONGRABI_LAYOUT(state_ready, offsetof(muongrabi_state, ready) == 7208);
+MUONGRABI_LAYOUT(state_stretches, offsetof(muongrabi_state, stretches) == 7216);
+MUONGRABI_LAYOUT(state_refusal, offsetof(muongrabi_state, refusal) == 7224);
+MUONGRABI_LAYOUT(state_lengths, offsetof(muongrabi_state, lengths) == 7248);
+MUONGRABI_LAYOUT(state, sizeof(muongrabi_state) == 7296);
+MUONGRABI_LAYOUT(restored_state, offsetof(muongrabi_restored, state) == 8);
+MUONGRABI_LAYOUT(restored, sizeof(muongrabi_restored) == 7304);
 MUONGRABI_LAYOUT(progress_line, offsetof(muongrabi_progress, line) == 8);
 MUONGRABI_LAYOUT(progress_at, offsetof(muongrabi_progress, at) == 16);
 MUONGRABI_LAYOUT(progress_into, offsetof(muongrabi_progress, into) == 24);
-MUONGRABI_LAYOUT(progress_refusal, offsetof(muongrabi_progress, refusal) == 32);
-MUONGRABI_LAYOUT(progress_lengths, offsetof(muongrabi_progress, lengths) == 56);
-MUONGRABI_LAYOUT(progress, sizeof(muongrabi_progress) == 104);
-MUONGRABI_LAYOUT(answer_outcome, offsetof(muongrabi_export_answer, outcome) == 104);
-MUONGRABI_LAYOUT(answer_number, offsetof(muongrabi_export_answer, number) == 112);
-MUONGRABI_LAYOUT(answer_line, offsetof(muongrabi_export_answer, line) == 120);
-MUONGRABI_LAYOUT(answer_byte, offsetof(muongrabi_export_answer, byte) == 128);
-MUONGRABI_LAYOUT(answer_taken, offsetof(muongrabi_export_answer, taken) == 136);
-MUONGRABI_LAYOUT(answer, sizeof(muongrabi_export_answer) == 144);
+MUONGRABI_LAYOUT(progress_total, offsetof(muongrabi_progress, total) == 32);
+MUONGRABI_LAYOUT(progress_ready, offsetof(muongrabi_progress, ready) == 40);
+MUONGRABI_LAYOUT(progress_stretches, offsetof(muongrabi_progress, stretches) == 48);
+MUONGRABI_LAYOUT(progress_refusal, offsetof(muongrabi_progress, refusal) == 56);
+MUONGRABI_LAYOUT(progress_lengths, offsetof(muongrabi_progress, lengths) == 80);
+MUONGRABI_LAYOUT(progress, sizeof(muongrabi_progress) == 128);
+MUONGRABI_LAYOUT(answer_outcome, offsetof(muongrabi_export_answer, outcome) == 128);
+MUONGRABI_LAYOUT(answer_number, offsetof(muongrabi_export_answer, number) == 136);
+MUONGRABI_LAYOUT(answer_line, offsetof(muongrabi_export_answer, line) == 144);
+MUONGRABI_LAYOUT(answer_byte, offsetof(muongrabi_export_answer, byte) == 152);
+MUONGRABI_LAYOUT(answer_taken, offsetof(muongrabi_export_answer, taken) == 160);
+MUONGRABI_LAYOUT(answer, sizeof(muongrabi_export_answer) == 168);
 #undef MUONGRABI_LAYOUT
 
 /* MUONGRABI_ABI as the archive has it. The name has the number too: what was compiled with a header of another ABI does not link. */
-size_t muongrabi_abi_4(void);
+size_t muongrabi_abi_5(void);
 
 void muongrabi_digest(const uint8_t *bytes, size_t bytes_length, uint8_t out[20]);
 
@@ -270,6 +305,11 @@ muongrabi_export_answer muongrabi_run(const uint8_t *list, size_t list_length,
                                       const uint8_t *data, size_t data_length,
                                       const size_t *cuts, size_t cuts_length,
                                       uint8_t hashes[20 * MUONGRABI_MOST_STASHES], size_t sizes[MUONGRABI_MOST_STASHES]);
+
+void muongrabi_save(const uint8_t hashes[20 * MUONGRABI_MOST_STASHES], const size_t sizes[MUONGRABI_MOST_STASHES],
+                    muongrabi_progress progress, uint8_t out[MUONGRABI_SAVED]);
+
+muongrabi_restored muongrabi_restore(const uint8_t *bytes, size_t bytes_length);
 
 uint32_t muongrabi_sparse_load(const uint8_t *file, size_t file_length, uint8_t *image, size_t image_length);
 
@@ -305,6 +345,9 @@ static inline muongrabi_progress muongrabi_progress_of(const muongrabi_state *st
     progress.line = state->line;
     progress.at = state->at;
     progress.into = state->into;
+    progress.total = state->total;
+    progress.ready = state->ready;
+    progress.stretches = state->stretches;
     progress.refusal = state->refusal;
     progress.lengths = state->lengths;
     return progress;
@@ -318,6 +361,9 @@ static inline muongrabi_answer muongrabi_answered(const muongrabi_export_answer 
     state->line = from->progress.line;
     state->at = from->progress.at;
     state->into = from->progress.into;
+    state->total = from->progress.total;
+    state->ready = from->progress.ready;
+    state->stretches = from->progress.stretches;
     state->refusal = from->progress.refusal;
     state->lengths = from->progress.lengths;
     answer.outcome = from->outcome;
@@ -330,7 +376,8 @@ static inline muongrabi_answer muongrabi_answered(const muongrabi_export_answer 
 
 /*
  * The functions to call. Each is called by its name without `_lent`, which stands for it from the end of this header on: muongrabi_digest,
- * muongrabi_open, muongrabi_call, muongrabi_run and muongrabi_sparse_load. All but the digest's name muongrabi_abi_4 too.
+ * muongrabi_open, muongrabi_call, muongrabi_run, muongrabi_save, muongrabi_restore and muongrabi_sparse_load. All but the digest's name
+ * muongrabi_abi_5 too.
  */
 
 /* Writes the SHA-1 digest of the bytes to out. */
@@ -347,14 +394,14 @@ static inline muongrabi_state muongrabi_open_lent(const uint8_t *list, size_t li
                                                   size_t image_length, size_t stash_length, size_t work_length,
                                                   size_t result_length, size_t patch_length)
 {
-    (void)muongrabi_abi_4();
+    (void)muongrabi_abi_5();
     return muongrabi_open(muongrabi_lent_bytes(list), muongrabi_lent_length(list, list_length),
                           image_length, stash_length, work_length, result_length, patch_length);
 }
 
 /*
- * Runs the list from where the state stands until it needs a byte that the piece does not have, the list is finished, or a line is
- * refused. The state, which must not be null, is changed where it lies, and is then that of the next call. A refusal other than 17 is held in
+ * Runs the list from where the state stands until it needs a byte that the piece does not have, the list is finished, a line is refused, or
+ * the run stops for saving. The state, which must not be null, is changed where it lies, and is then that of the next call. A refusal other than 17 is held in
  * it, and every later call repeats it. With 17 the state stays as it was, and nothing is taken or changed. A refused line changes nothing
  * itself, with two exceptions: where a hash differs (16) or a patch is malformed (19) the work area has the source, and where it is the hash of
  * a patch's result, the result area has the result. Nothing rests on what the opening found: state and lengths are looked at (17), and each
@@ -366,9 +413,14 @@ static inline muongrabi_state muongrabi_open_lent(const uint8_t *list, size_t li
  * work and result area stay as they are, and the state goes to the next line. The line is checked before that as any other (6 to 12, 18). All other
  * commands run whenever they are met.
  *
- * So a list that is run again from its top over an image that it has updated passes over the lines that are finished. In general that is still not
+ * A run stops between filling the work area (of a `bsdiff` the result area) and writing from it, and after every `move`, `stash` and `bsdiff`, passed
+ * over or not. A `free` moves the younger stashes down in stretches as long as the stash that goes, the last perhaps shorter, and stops after each;
+ * where no stash is younger it does not stop. A stop may come with bytes of the piece not taken: the next piece begins with them. An empty
+ * piece is enough to go on. What is ready is written as it is, whatever the target holds: neither target nor source is read again.
+ *
+ * A list that is run again from its top over an image that it has updated passes over the lines that are finished. In general that is still not
  * safe: a later line may have changed a block that an earlier one needs, and what a `stash` names may be gone. After a dropped connection
- * go on from the state of the last call.
+ * go on from the state of the last call, and after a power cut from the state that was saved at the last stop.
  *
  * A `bsdiff` that is not finished puts its source together in the work area, and what the patch makes of it in the result area; only where both
  * have their hashes is the result written to the image. A patch is bsdiff's control triples and bytes unpacked, not a file that bsdiff wrote:
@@ -385,7 +437,7 @@ static inline muongrabi_answer muongrabi_call_lent(const uint8_t *list, size_t l
                                                    muongrabi_state *state)
 {
     muongrabi_export_answer answer;
-    (void)muongrabi_abi_4();
+    (void)muongrabi_abi_5();
     answer = muongrabi_call(muongrabi_lent_bytes(list), muongrabi_lent_length(list, list_length),
                             muongrabi_lent_area(image), muongrabi_lent_length(image, image_length),
                             muongrabi_lent_area(stash), muongrabi_lent_length(stash, stash_length),
@@ -399,7 +451,8 @@ static inline muongrabi_answer muongrabi_call_lent(const uint8_t *list, size_t l
 
 /*
  * Opens the list, then calls with pieces of data, whose lengths are the cuts_length numbers of cuts, cut short where data ends, and
- * once more with all that is left. The answer is the last call's, its taken the sum over all calls. The state after that call is put into
+ * once more with all that is left; after a stop it calls on, so that MUONGRABI_STOP is not answered. The answer is the last call's, its taken the sum
+ * over all calls. The state after that call is put into
  * *state, which must not be null; what it held is not looked at. A refused opening is answered with MUONGRABI_REFUSED, its number, line and
  * byte, and taken 0; nothing but *state is changed then, which is the opening's.
  */
@@ -414,7 +467,7 @@ static inline muongrabi_answer muongrabi_run_lent(const uint8_t *list, size_t li
                                                   muongrabi_state *state)
 {
     muongrabi_export_answer answer;
-    (void)muongrabi_abi_4();
+    (void)muongrabi_abi_5();
     answer = muongrabi_run(muongrabi_lent_bytes(list), muongrabi_lent_length(list, list_length),
                            muongrabi_lent_area(image), muongrabi_lent_length(image, image_length),
                            muongrabi_lent_area(stash), muongrabi_lent_length(stash, stash_length),
@@ -428,6 +481,26 @@ static inline muongrabi_answer muongrabi_run_lent(const uint8_t *list, size_t li
 }
 
 /*
+ * Writes the saved form of the state to out: MUONGRABI_SAVED bytes that every state has, laid out as docs/SAVED-FORM.md says, the same on every
+ * 64-bit little-endian machine. Neither pointer may be null.
+ */
+static inline void muongrabi_save_lent(const muongrabi_state *state, uint8_t out[MUONGRABI_SAVED])
+{
+    (void)muongrabi_abi_5();
+    muongrabi_save(state->hashes, state->sizes, muongrabi_progress_of(state), out);
+}
+
+/*
+ * Reads a saved form. Gives number 0 and the state that was saved, or 20 exactly when the bytes are no state's saved form. It does not ask whether
+ * the state fits a list and areas: a call does (17).
+ */
+static inline muongrabi_restored muongrabi_restore_lent(const uint8_t *bytes, size_t bytes_length)
+{
+    (void)muongrabi_abi_5();
+    return muongrabi_restore(muongrabi_lent_bytes(bytes), muongrabi_lent_length(bytes, bytes_length));
+}
+
+/*
  * Loads a sparse file into the image, which has as many blocks as the file's header says (a number of 32 bits, little-endian, at its byte 16):
  * a raw chunk's blocks get the bytes it carries, a fill's blocks its four bytes over and over, and don't-care blocks keep what the image has.
  * Gives 0, or 30 to 36: that of the header, else the earliest faulty chunk's lowest (a 0xCAC4 chunk is always 35), else that of the end. The
@@ -436,7 +509,7 @@ static inline muongrabi_answer muongrabi_run_lent(const uint8_t *list, size_t li
  */
 static inline uint32_t muongrabi_sparse_load_lent(const uint8_t *file, size_t file_length, uint8_t *image, size_t image_length)
 {
-    (void)muongrabi_abi_4();
+    (void)muongrabi_abi_5();
     return muongrabi_sparse_load(muongrabi_lent_bytes(file), muongrabi_lent_length(file, file_length),
                                  muongrabi_lent_area(image), muongrabi_lent_length(image, image_length));
 }
@@ -445,6 +518,8 @@ static inline uint32_t muongrabi_sparse_load_lent(const uint8_t *file, size_t fi
 #define muongrabi_open muongrabi_open_lent
 #define muongrabi_call muongrabi_call_lent
 #define muongrabi_run muongrabi_run_lent
+#define muongrabi_save muongrabi_save_lent
+#define muongrabi_restore muongrabi_restore_lent
 #define muongrabi_sparse_load muongrabi_sparse_load_lent
 
 #ifdef __cplusplus

@@ -6,7 +6,7 @@ use std::path::{Path, PathBuf};
 const ARCHIVE: &str = "libmuongrabi.a";
 
 /// Only an archive with the structs of `src/exports.rs` has a function of this name.
-const ABI: &str = "muongrabi_abi_4";
+const ABI: &str = "muongrabi_abi_5";
 
 fn main() {
     println!("cargo::rerun-if-changed=build.rs");

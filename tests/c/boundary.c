@@ -1,7 +1,7 @@
 /*
- * Lent areas and states stand against a page that may not be touched, behind them or before them, and list, patch data, piece, cuts and sparse
- * file may not be written: a byte read or written outside what was lent ends the program. What is null, and refusals in words, are tried after
- * that. Ends in one line `N passed, M failed`.
+ * Lent areas, states and saved forms stand against a page that may not be touched, behind them or before them, and list, patch data, piece, cuts
+ * and sparse file may not be written: a byte read or written outside what was lent ends the program. Each way to come to a stop may touch no block
+ * but those it reads or writes by the rules. What is null, and refusals in words, are tried after that. Ends in one line `N passed, M failed`.
  */
 #define _DEFAULT_SOURCE
 #include <stdio.h>
@@ -75,7 +75,7 @@ static int with_byte(size_t number)
 static int sound(const muongrabi_answer *answer)
 {
     int refused = answer->outcome == MUONGRABI_REFUSED;
-    return answer->outcome <= MUONGRABI_REFUSED && (refused ? answer->number != 0 : answer->number == 0 && answer->line == 0) &&
+    return answer->outcome <= MUONGRABI_STOP && (refused ? answer->number != 0 : answer->number == 0 && answer->line == 0) &&
            (with_byte(answer->number) || answer->byte == 0);
 }
 
@@ -108,7 +108,7 @@ static void name_of(const char *letters, char out[41])
     for (int k = 0; k < 20; k++) sprintf(out + 2 * k, "%02x", hash[k]);
 }
 
-static lot list_lot, image_lot, stash_lot, work_lot, result_lot, patch_lot, piece_lot, cuts_lot, hash_lot, file_lot, state_lot;
+static lot list_lot, image_lot, stash_lot, work_lot, result_lot, patch_lot, piece_lot, cuts_lot, hash_lot, file_lot, state_lot, form_lot;
 
 /* A state where the others lie. */
 static muongrabi_state *lay_state(muongrabi_state state, int behind)
@@ -198,6 +198,7 @@ static void whole_runs(size_t length)
 {
     static uint8_t image[8 * BLOCK], data[3 * BLOCK], stash[3 * BLOCK], work[4 * BLOCK], result[2 * BLOCK];
     fill(data, "pqr");
+    const size_t all_stops = 13;   /* two for each stash, move and bsdiff, and one for the free */
     size_t pieces[] = {1, 64, 4095, 4096, 4097, 3 * BLOCK};
     muongrabi_state last, other;
     memset(&other, 0xa5, sizeof other);
@@ -216,19 +217,25 @@ static void whole_runs(size_t length)
             muongrabi_state *state = lay_state(
                 muongrabi_open(l, length, sizeof image, sizeof stash, sizeof work, sizeof result, patch_length), behind);
             muongrabi_answer answer = {.outcome = MUONGRABI_MORE};
-            size_t taken = 0;
+            size_t taken = 0, end = 0, stops = 0;
             int good = 1;
-            for (size_t at = 0; at < sizeof data && answer.outcome == MUONGRABI_MORE; at += pieces[k]) {
-                size_t n = sizeof data - at < pieces[k] ? sizeof data - at : pieces[k];
-                const uint8_t *piece = lay(&piece_lot, data + at, n, behind, 1);
+            do {
+                /* A new piece after more. After a stop the bytes not taken; with some lengths there is more behind them. */
+                if (answer.outcome == MUONGRABI_MORE || k % 2 == 0) end = sizeof data - taken < pieces[k] ? sizeof data : taken + pieces[k];
+                const uint8_t *piece = lay(&piece_lot, data + taken, end - taken, behind, 1);
                 answer = muongrabi_call(l, length, i, sizeof image, s, sizeof stash, w, sizeof work, r, sizeof result, p, patch_length,
-                                        piece, n, state);
+                                        piece, end - taken, state);
                 taken += answer.taken;
-                good &= sound(&answer);
-            }
+                stops += answer.outcome == MUONGRABI_STOP;
+                good &= sound(&answer) && taken <= end && state->total == taken;
+                if (answer.outcome == MUONGRABI_MORE) good &= taken == end;
+                else good &= answer.outcome != MUONGRABI_REFUSED;
+            } while (answer.outcome == MUONGRABI_STOP || (answer.outcome == MUONGRABI_MORE && taken < sizeof data));
             check(good && answer.outcome == MUONGRABI_DONE && taken == sizeof data, "a run's end");
+            check(stops == all_stops, "a run's stops");
             check(holds(i, "p0HqBr0s") && holds(s, "HBH") && holds(w, "rHqv") && holds(r, "sl"), "what a run leaves");
             check(state->count == 1 && state->sizes[0] == 1 && state->at == length && state->line == 16, "the state at the end");
+            check(state->total == sizeof data && state->ready == 0 && state->stretches == 0 && state->into == 0, "its total and its marks");
             check(state->lengths.result == sizeof result && state->lengths.patch == patch_length, "the lengths in a state");
             last = *state;
         }
@@ -283,9 +290,16 @@ static void beginnings(size_t length)
             uint8_t *r = lay(&result_lot, result, sizeof result, 1, 0);
             const uint8_t *p = lay(&patch_lot, patch, patch_length, 1, 1);
             const uint8_t *d = lay(&piece_lot, data, sizeof data, 1, 1);
-            muongrabi_answer answer = muongrabi_call(l, n, i, sizeof image, s, sizeof stash, w, sizeof work, r, sizeof result,
-                                                     p, patch_length, d, sizeof data, lay_state(from, 1));
-            good &= sound(&answer) && answer.byte == (with_byte(answer.number) ? n : 0);
+            muongrabi_state *called = lay_state(from, 1);
+            muongrabi_answer answer;
+            size_t taken = 0;
+            do {
+                answer = muongrabi_call(l, n, i, sizeof image, s, sizeof stash, w, sizeof work, r, sizeof result,
+                                        p, patch_length, d + taken, sizeof data - taken, called);
+                taken += answer.taken;
+                good &= sound(&answer);
+            } while (answer.outcome == MUONGRABI_STOP);
+            good &= answer.byte == (with_byte(answer.number) ? n : 0);
         }
     }
     check(good, "every beginning of the list");
@@ -456,10 +470,13 @@ static void finished_lines(void)
         muongrabi_state *called = lay_state(state, k % 2), after = state;
         after.at = length;
         after.line = 6;
-        muongrabi_answer answer = muongrabi_call(lay(&list_lot, text, length, k % 2, 1), length, i.first, i.room, s.first, s.room, w.first, w.room,
-                                                 r.first, r.room, p.first, p.room, lay(&piece_lot, "piece", 5, 1, 1), 5, called);
-        check(answer.outcome == MUONGRABI_DONE && answer.taken == 0, "a finished line");
-        check(memcmp(called, &after, sizeof after) == 0, "the state behind a finished line");
+        /* It stops behind the line, and then the list is finished. */
+        for (int again = 0; again < 2; again++) {
+            muongrabi_answer answer = muongrabi_call(lay(&list_lot, text, length, k % 2, 1), length, i.first, i.room, s.first, s.room,
+                                                     w.first, w.room, r.first, r.room, p.first, p.room, lay(&piece_lot, "piece", 5, 1, 1), 5, called);
+            check(answer.outcome == (again ? MUONGRABI_DONE : MUONGRABI_STOP) && answer.taken == 0, "a finished line");
+            check(memcmp(called, &after, sizeof after) == 0, "the state behind a finished line");
+        }
     }
 }
 
@@ -494,16 +511,18 @@ static void nothing_lent(void)
     check(open.refusal.number == 0, "a list to disturb");
     for (size_t a = 0; a < many; a++) {
         for (size_t b = 0; b < many; b++) {
-            for (size_t c = 0; c < 8; c++) {
+            for (size_t c = 0; c < 11; c++) {
                 muongrabi_state state = open;
                 size_t *fields[] = {&state.at, &state.line, &state.into, &state.count, &state.sizes[0], &state.sizes[MUONGRABI_MOST_STASHES - 1],
-                                    &state.lengths.result, &state.lengths.patch};
+                                    &state.lengths.result, &state.lengths.patch, &state.total, &state.ready, &state.stretches};
                 *fields[c] = borders[a];
-                *fields[(c + 1 + a % 7) % 8] = borders[b];
+                *fields[(c + 1 + a % 10) % 11] = borders[b];
                 muongrabi_state *called = lay_state(state, (int)(a + b) % 2);
                 muongrabi_answer answer = muongrabi_call(l, strlen(some), i, BLOCK, none.first, 0, none.first, 0, none.first, 0, none.first, 0,
                                                          d, 10, called);
-                good &= sound(&answer);
+                /* The total wraps, and no stop is near. */
+                good &= sound(&answer) && answer.outcome != MUONGRABI_STOP && called->total == state.total + answer.taken;
+                if (state.ready != 0 || state.stretches != 0) good &= answer.number == 17;
                 if (answer.number == 17) good &= answer.taken == 0 && memcmp(called, &state, sizeof state) == 0;
             }
         }
@@ -596,23 +615,27 @@ static int stayed(const uint8_t bytes[64])
     return 1;
 }
 
+static uint8_t kept_stash[MUONGRABI_MOST_STASHES * BLOCK];
+
 /* A call over the kept state; the bytes around it stay. */
-static muongrabi_answer call_kept(const char *text, size_t length, uint8_t *image, uint8_t *stash, uint8_t *work,
-                                  const uint8_t *piece, size_t piece_length)
+static muongrabi_answer call_kept(const char *text, size_t length, uint8_t *image, uint8_t *work, const uint8_t *piece, size_t piece_length)
 {
     memset(kept.before, 0xc3, sizeof kept.before);
     memset(kept.after, 0xc3, sizeof kept.after);
-    muongrabi_answer answer = muongrabi_call((const uint8_t *)text, length, image, BLOCK, stash, BLOCK, work, BLOCK, NULL, 0, NULL, 0,
-                                             piece, piece_length, &kept.state);
+    muongrabi_answer answer = muongrabi_call((const uint8_t *)text, length, image, BLOCK, kept_stash, sizeof kept_stash, work, BLOCK, NULL, 0,
+                                             NULL, 0, piece, piece_length, &kept.state);
     check(stayed(kept.before) && stayed(kept.after), "the bytes around a state");
     return answer;
 }
 
-/* Tables in which every row is another; 255 stashes of no blocks are held, at the first command line of this list. */
+/* Tables in which every row is another; 255 stashes of one block are held, at the first command line of this list. */
 static muongrabi_state full_but_one(const char *text)
 {
-    muongrabi_state state = muongrabi_open((const uint8_t *)text, strlen(text), BLOCK, BLOCK, BLOCK, 0, 0);
-    for (size_t k = 0; k < MUONGRABI_MOST_STASHES; k++) memset(state.hashes + 20 * k, (int)k, 20);
+    muongrabi_state state = muongrabi_open((const uint8_t *)text, strlen(text), BLOCK, sizeof kept_stash, BLOCK, 0, 0);
+    for (size_t k = 0; k < MUONGRABI_MOST_STASHES; k++) {
+        memset(state.hashes + 20 * k, (int)k, 20);
+        state.sizes[k] = 1;
+    }
     state.sizes[MUONGRABI_MOST_STASHES - 1] = 77;
     state.count = MUONGRABI_MOST_STASHES - 1;
     return state;
@@ -621,69 +644,81 @@ static muongrabi_state full_but_one(const char *text)
 /* A state is changed where it lies: the tables to their last rows, nothing beside them, and nothing at all where a call is refused so. */
 static void states_in_place(void)
 {
-    static uint8_t image[BLOCK], stash[BLOCK], work[BLOCK], data[BLOCK];
+    static uint8_t image[BLOCK], work[BLOCK], data[BLOCK];
     static char text[200];
+    uint8_t *last_block = kept_stash + sizeof kept_stash - BLOCK;
     char a[41];
     fill(image, "A");
-    fill(stash, "x");
+    memset(kept_stash, 'x', sizeof kept_stash);
     fill(work, "w");
     fill(data, "p");
     name_of("A", a);
-    snprintf(text, sizeof text, "3\n1\n256\n1\nstash %s 2,0,1\nnew 2,0,1\nfree %s\n", a, a);
+    snprintf(text, sizeof text, "3\n1\n256\n256\nstash %s 2,0,1\nnew 2,0,1\nfree %s\n", a, a);
     size_t length = strlen(text);
     muongrabi_state state = full_but_one(text);
     check(state.refusal.number == 0, "a list for a full table");
 
     /* 17, by a field of the progress, a row of either table or a length: nothing of the state is another. */
-    for (int k = 0; k < 6; k++) {
+    for (int k = 0; k < 9; k++) {
         kept.state = state;
         if (k == 0) kept.state.at++;
         if (k == 1) kept.state.count = MUONGRABI_MOST_STASHES + 1;
         if (k == 2) memcpy(kept.state.hashes + 20 * 254, kept.state.hashes, 20);
-        if (k == 3) kept.state.sizes[254] = 2;
+        if (k == 3) kept.state.sizes[254] = 3;
         if (k == 4) kept.state.into = 1;
+        if (k == 5) kept.state.stretches = 1;
+        if (k == 6) kept.state.sizes[0] = 0;
+        if (k == 7) kept.state.sizes[254] = 0;
         muongrabi_state before = kept.state;
-        muongrabi_answer answer = call_kept(text, k == 5 ? length - 1 : length, image, stash, work, data, BLOCK);
+        muongrabi_answer answer = call_kept(text, k == 8 ? length - 1 : length, image, work, data, BLOCK);
         check(is_refused(&answer, 17, 0, 0), "17");
         check(memcmp(&kept.state, &before, sizeof before) == 0, "the state after 17");
     }
     /* A refusal that is held, whatever it is, with a table that is good, and with one that would be 17 without it. */
     static const muongrabi_refusal held[] = {{16, 9, 0}, {16, 9, 77}, {6, 5, 8}, {6, 0, SIZE_MAX}, {3, 1, 0}, {3, 7, 4194305}, {17, 0, 3},
-                                             {99, 98, 97}, {SIZE_MAX, SIZE_MAX, SIZE_MAX}};
+                                             {20, 0, 0}, {99, 98, 97}, {SIZE_MAX, SIZE_MAX, SIZE_MAX}};
     for (size_t k = 0; k < 2 * sizeof held / sizeof *held; k++) {
         muongrabi_refusal refusal = held[k / 2];
         kept.state = state;
         kept.state.refusal = refusal;
-        if (k % 2 == 1) kept.state.count = SIZE_MAX;
+        if (k % 2 == 1) kept.state.count = SIZE_MAX, kept.state.stretches = 7;
         muongrabi_state before = kept.state;
-        muongrabi_answer answer = call_kept(text, length, image, stash, work, data, BLOCK);
+        muongrabi_answer answer = call_kept(text, length, image, work, data, BLOCK);
         check(is_refused(&answer, refusal.number, refusal.line, refusal.byte), "a held refusal");
         check(memcmp(&kept.state, &before, sizeof before) == 0, "the state after a held refusal");
     }
-    check(holds(image, "A") && holds(stash, "x") && holds(work, "w"), "the areas after those");
+    check(holds(image, "A") && holds(kept_stash, "x") && holds(last_block, "x") && holds(work, "w"), "the areas after those");
 
-    /* The last rows are written, and no others. */
+    /* The last rows are written, and no others: not while the work area is filled, and then with the stash. */
     kept.state = state;
-    muongrabi_answer answer = call_kept(text, length, image, stash, work, NULL, 0);
-    check(answer.outcome == MUONGRABI_MORE && answer.taken == 0 && kept.state.count == MUONGRABI_MOST_STASHES, "a full table");
+    muongrabi_answer answer = call_kept(text, length, image, work, NULL, 0);
     muongrabi_state expected = state;
+    expected.ready = 1;
+    check(answer.outcome == MUONGRABI_STOP && answer.taken == 0 && memcmp(&kept.state, &expected, sizeof expected) == 0, "a stash that is ready");
+    answer = call_kept(text, length, image, work, NULL, 0);
+    expected.ready = 0;
+    expected.count = MUONGRABI_MOST_STASHES;
+    expected.line = 6;
+    expected.at = (size_t)(strstr(text, "new") - text);
     uint8_t *last = expected.hashes + 20 * (MUONGRABI_MOST_STASHES - 1);
     muongrabi_digest(image, BLOCK, last);
     expected.sizes[MUONGRABI_MOST_STASHES - 1] = 1;
-    check(memcmp(kept.state.hashes, expected.hashes, sizeof expected.hashes) == 0, "the hashes of a full table");
-    check(memcmp(kept.state.sizes, expected.sizes, sizeof expected.sizes) == 0, "the sizes of a full table");
-    answer = call_kept(text, length, image, stash, work, data, BLOCK);
+    check(answer.outcome == MUONGRABI_STOP && answer.taken == 0 && memcmp(&kept.state, &expected, sizeof expected) == 0, "a full table");
+    answer = call_kept(text, length, image, work, NULL, 0);
+    check(answer.outcome == MUONGRABI_MORE && answer.taken == 0 && memcmp(&kept.state, &expected, sizeof expected) == 0, "and more data");
+    answer = call_kept(text, length, image, work, data, BLOCK);
     check(answer.outcome == MUONGRABI_DONE && answer.taken == BLOCK && kept.state.count == MUONGRABI_MOST_STASHES - 1, "one stash freed");
     check(memcmp(kept.state.hashes, state.hashes, 20 * (MUONGRABI_MOST_STASHES - 1)) == 0, "the hashes of those still held");
-    check(holds(image, "p") && holds(stash, "A"), "the areas at the end");
+    check(holds(image, "p") && holds(last_block, "A") && holds(last_block - BLOCK, "x"), "the areas at the end");
 
     /* A run puts the state into its place, whatever was there, and a refused opening's too. */
     fill(image, "A");
     for (int k = 0; k < 2; k++) {
         memset(&kept, 0xc3, sizeof kept);
         size_t n = k == 0 ? length : 7;
-        muongrabi_state opened = muongrabi_open((const uint8_t *)text, n, BLOCK, BLOCK, BLOCK, 0, 0);
-        answer = muongrabi_run((const uint8_t *)text, n, image, BLOCK, stash, BLOCK, work, BLOCK, NULL, 0, NULL, 0, NULL, 0, NULL, 0, &kept.state);
+        muongrabi_state opened = muongrabi_open((const uint8_t *)text, n, BLOCK, sizeof kept_stash, BLOCK, 0, 0);
+        answer = muongrabi_run((const uint8_t *)text, n, image, BLOCK, kept_stash, sizeof kept_stash, work, BLOCK, NULL, 0, NULL, 0, NULL, 0,
+                               NULL, 0, &kept.state);
         check(stayed(kept.before) && stayed(kept.after), "the bytes around a run's state");
         if (k == 0) {
             opened.count = 1;
@@ -694,6 +729,402 @@ static void states_in_place(void)
         }
         check(answer.outcome == (k == 0 ? MUONGRABI_MORE : MUONGRABI_REFUSED) && answer.taken == 0, "a run's answer");
         check(memcmp(&kept.state, &opened, sizeof opened) == 0, "a run's state");
+    }
+}
+
+/* What a call finds and what it leaves, in letters, one to a block. */
+typedef struct {
+    size_t outcome, taken, line, ready, stretches, count;
+    const char *image, *stash, *work, *result;
+} left;
+
+/* Two bytes strings of one length mixed, byte by byte. */
+static void mix(uint8_t *out, const uint8_t *before, size_t length, unsigned *dice)
+{
+    for (size_t k = 0; k < length; k++) {
+        *dice = *dice * 1103515245u + 12345u;
+        if (*dice >> 31) out[k] = before[k];
+    }
+}
+
+/*
+ * A list with every kind of stop, call by call. Before each call the state is saved and read again. After it, the call is made again from that
+ * state over image and areas as a cut may have left them: what the call wrote is there in part.
+ */
+static void every_stop(void)
+{
+    static const left calls[] = {
+        /* zero, new, the work area filled for a stash: the piece's second block is not taken */
+        {MUONGRABI_STOP, BLOCK, 7, 1, 0, 0, "ABCDEFp0", "xxxxxxx", "ABww", "kk"},
+        {MUONGRABI_STOP, 0, 8, 0, 0, 1, "ABCDEFp0", "ABxxxxx", "ABww", "kk"},
+        {MUONGRABI_STOP, 0, 8, 1, 0, 1, "ABCDEFp0", "ABxxxxx", "CDEw", "kk"},
+        {MUONGRABI_STOP, 0, 9, 0, 0, 2, "ABCDEFp0", "ABCDExx", "CDEw", "kk"},
+        {MUONGRABI_STOP, 0, 9, 1, 0, 2, "ABCDEFp0", "ABCDExx", "FpEw", "kk"},
+        {MUONGRABI_STOP, 0, 10, 0, 0, 3, "ABCDEFp0", "ABCDEFp", "FpEw", "kk"},
+        /* a move over its own source, and the same line again, which is finished */
+        {MUONGRABI_STOP, 0, 10, 1, 0, 3, "ABCDEFp0", "ABCDEFp", "ABCw", "kk"},
+        {MUONGRABI_STOP, 0, 11, 0, 0, 3, "AABCEFp0", "ABCDEFp", "ABCw", "kk"},
+        {MUONGRABI_STOP, 0, 12, 0, 0, 3, "AABCEFp0", "ABCDEFp", "ABCw", "kk"},
+        /* a free in three stretches, the last one shorter */
+        {MUONGRABI_STOP, 0, 12, 0, 1, 3, "AABCEFp0", "CDCDEFp", "ABCw", "kk"},
+        {MUONGRABI_STOP, 0, 12, 0, 2, 3, "AABCEFp0", "CDEFEFp", "ABCw", "kk"},
+        {MUONGRABI_STOP, 0, 13, 0, 0, 2, "AABCEFp0", "CDEFpFp", "ABCw", "kk"},
+        /* a free of the youngest, which does not stop; new, and a bsdiff */
+        {MUONGRABI_STOP, BLOCK, 15, 1, 0, 1, "AABCErp0", "CDEFpFp", "rBCw", "sk"},
+        {MUONGRABI_STOP, 0, 16, 0, 0, 1, "AABCErps", "CDEFpFp", "rBCw", "sk"},
+        {MUONGRABI_DONE, 0, 17, 0, 0, 1, "0ABCErps", "CDEFpFp", "rBCw", "sk"},
+    };
+    static uint8_t image[8 * BLOCK], stash[7 * BLOCK], work[4 * BLOCK], result[2 * BLOCK], data[2 * BLOCK], form[MUONGRABI_SAVED];
+    static uint8_t before[sizeof image + sizeof stash + sizeof work + sizeof result];
+    static char text[1500];
+    char ab[41], cde[41], fp[41], abc[41], r[41], s[41];
+    name_of("AB", ab);
+    name_of("CDE", cde);
+    name_of("Fp", fp);
+    name_of("ABC", abc);
+    name_of("r", r);
+    name_of("s", s);
+    fill(data, "pr");
+    make_patch();
+    size_t length = (size_t)snprintf(text, sizeof text,
+        "3\n10\n3\n7\nzero 2,7,8\nnew 2,6,7\nstash %s 2,0,2\nstash %s 2,2,5\nstash %s 2,5,7\nmove %s 2,1,4 3 2,0,3\nmove %s 2,1,4 3 2,0,3\n"
+        "free %s\nfree %s\nnew 2,5,6\nbsdiff 0 %zu %s %s 2,7,8 1 2,5,6\nerase 2,0,1\n",
+        ab, cde, fp, abc, abc, ab, fp, patch_length, r, s);
+    const uint8_t *l = (const uint8_t *)text;
+    /* All the data at once, or a block where one is needed and an empty piece elsewhere; and with a cut in each segment. */
+    for (int way = 0; way < 4; way++) {
+        unsigned dice = 1;
+        int empty = way % 2, cut = way / 2;
+        fill(image, "ABCDEFGH");
+        fill(stash, "xxxxxxx");
+        fill(work, "wwww");
+        fill(result, "kk");
+        muongrabi_state state = muongrabi_open(l, length, sizeof image, sizeof stash, sizeof work, sizeof result, patch_length);
+        check(state.refusal.number == 0, "a list with every stop");
+        for (size_t k = 0; k < sizeof calls / sizeof *calls; k++) {
+            const left *then = &calls[k];
+            const uint8_t *piece = data + state.total;
+            size_t n = empty ? then->taken : sizeof data - state.total;
+            muongrabi_save(&state, form);
+            memcpy(before, image, sizeof image);
+            memcpy(before + sizeof image, stash, sizeof stash);
+            memcpy(before + sizeof image + sizeof stash, work, sizeof work);
+            memcpy(before + sizeof image + sizeof stash + sizeof work, result, sizeof result);
+            for (int again = 0; again <= 3 * cut; again++) {
+                if (again > 0) {
+                    mix(image, before, sizeof image, &dice);
+                    mix(stash, before + sizeof image, sizeof stash, &dice);
+                    mix(work, before + sizeof image + sizeof stash, sizeof work, &dice);
+                    mix(result, before + sizeof image + sizeof stash + sizeof work, sizeof result, &dice);
+                }
+                muongrabi_restored restored = muongrabi_restore(form, sizeof form);
+                check(restored.number == 0 && restored.state.total == (size_t)(piece - data), "a state read at a stop");
+                state = restored.state;
+                muongrabi_answer answer = muongrabi_call(l, length, image, sizeof image, stash, sizeof stash, work, sizeof work,
+                                                         result, sizeof result, patch, patch_length, piece, n, &state);
+                check(sound(&answer) && answer.outcome == then->outcome && answer.taken == then->taken, "a stop's answer");
+                check(state.line == then->line && state.ready == then->ready && state.stretches == then->stretches && state.count == then->count &&
+                      state.total == (size_t)(piece - data) + then->taken && state.into == 0, "the state at a stop");
+                check(holds(image, then->image) && holds(stash, then->stash) && holds(work, then->work) && holds(result, then->result),
+                      "image and areas at a stop");
+            }
+        }
+        check(state.total == sizeof data && state.at == length, "the end behind every stop");
+    }
+}
+
+/* May be: - not touched, r read, w written. */
+static void allow(const lot *in, const char *pages)
+{
+    for (size_t k = 0; k * BLOCK < in->room; k++) {
+        int may = pages[k] == 'w' ? PROT_READ | PROT_WRITE : pages[k] == 'r' ? PROT_READ : PROT_NONE;
+        if (mprotect(in->first + k * BLOCK, BLOCK, may) != 0) exit(2);
+    }
+}
+
+/*
+ * One call over one line and an `erase` of block 0 behind it, from a state made by hand, which holds ST, UVW and XY. A block is a page here: what
+ * the call may not read or write may not be touched. What is ready is written as it is, whatever hash it has and whatever the target holds.
+ */
+static void what_a_step_touches(void)
+{
+    static char st[41], uvw[41], xy[41], de[41], bc[41], gh[41], r[41], s[41], kl[41], text[400];
+    name_of("ST", st);
+    name_of("UVW", uvw);
+    name_of("XY", xy);
+    name_of("DE", de);
+    name_of("BC", bc);
+    name_of("Gr", gh);
+    name_of("r", r);
+    name_of("s", s);
+    name_of("kl", kl);
+    make_patch();
+    /* Each %s is the next of the names. */
+    const struct {
+        const char *line, *names[3];
+        size_t ready, stretches;
+        const char *image, *stash, *work, *result, *patch;
+        left then;
+    } steps[] = {
+        {"move %s 2,1,3 2 2,3,5", {de}, 0, 0, "-rrrr---", "---------", "ww--", "---", "--",
+         {MUONGRABI_STOP, 0, 5, 1, 0, 3, "ABCDEFGr", "STUVWXYyz", "DEcd", "klm"}},
+        {"move %s 2,1,3 2 2,3,5", {de}, 1, 0, "-ww-----", "---------", "rr--", "---", "--",
+         {MUONGRABI_STOP, 0, 6, 0, 0, 3, "AabDEFGr", "STUVWXYyz", "abcd", "klm"}},
+        {"move %s 2,1,3 2 2,3,5", {bc}, SIZE_MAX, 0, "-ww-----", "---------", "rr--", "---", "--",
+         {MUONGRABI_STOP, 0, 6, 0, 0, 3, "AabDEFGr", "STUVWXYyz", "abcd", "klm"}},
+        {"move %s 2,1,3 2 2,3,5", {bc}, 0, 0, "-rr-----", "---------", "----", "---", "--",
+         {MUONGRABI_STOP, 0, 6, 0, 0, 3, "ABCDEFGr", "STUVWXYyz", "abcd", "klm"}},
+        {"move %s 2,5,8 3 - %s:2,0,3", {uvw, uvw}, 0, 0, "-----rrr", "--rrr----", "www-", "---", "--",
+         {MUONGRABI_STOP, 0, 5, 1, 0, 3, "ABCDEFGr", "STUVWXYyz", "UVWd", "klm"}},
+        {"move %s 2,5,8 3 - %s:2,0,3", {uvw, uvw}, 1, 0, "-----www", "---------", "rrr-", "---", "--",
+         {MUONGRABI_STOP, 0, 6, 0, 0, 3, "ABCDEabc", "STUVWXYyz", "abcd", "klm"}},
+        {"stash %s 2,6,8", {gh}, 0, 0, "------rr", "---------", "ww--", "---", "--",
+         {MUONGRABI_STOP, 0, 5, 1, 0, 3, "ABCDEFGr", "STUVWXYyz", "Grcd", "klm"}},
+        {"stash %s 2,6,8", {gh}, 1, 0, "--------", "-------ww", "rr--", "---", "--",
+         {MUONGRABI_STOP, 0, 6, 0, 0, 4, "ABCDEFGr", "STUVWXYab", "abcd", "klm"}},
+        {"bsdiff 0 4200 %s %s 2,0,1 1 2,7,8", {r, s}, 0, 0, "r------r", "---------", "w---", "w--", "rr",
+         {MUONGRABI_STOP, 0, 5, 1, 0, 3, "ABCDEFGr", "STUVWXYyz", "rbcd", "slm"}},
+        {"bsdiff 0 4200 %s %s 2,0,1 1 2,7,8", {r, s}, 1, 0, "w-------", "---------", "----", "r--", "--",
+         {MUONGRABI_STOP, 0, 6, 0, 0, 3, "kBCDEFGr", "STUVWXYyz", "abcd", "klm"}},
+        {"bsdiff 7 0 %s %s 2,0,2 1 2,7,8", {r, kl}, 2, 0, "ww------", "---------", "----", "rr-", "--",
+         {MUONGRABI_STOP, 0, 6, 0, 0, 3, "klCDEFGr", "STUVWXYyz", "abcd", "klm"}},
+        {"bsdiff 0 4200 %s %s 2,1,3 1 2,7,8", {r, bc}, 0, 0, "-rr-----", "---------", "----", "---", "--",
+         {MUONGRABI_STOP, 0, 6, 0, 0, 3, "ABCDEFGr", "STUVWXYyz", "abcd", "klm"}},
+        {"free %s", {st}, 0, 0, "--------", "wwrr-----", "----", "---", "--",
+         {MUONGRABI_STOP, 0, 5, 0, 1, 3, "ABCDEFGr", "UVUVWXYyz", "abcd", "klm"}},
+        {"free %s", {st}, 0, 1, "--------", "--wwrr---", "----", "---", "--",
+         {MUONGRABI_STOP, 0, 5, 0, 2, 3, "ABCDEFGr", "STWXWXYyz", "abcd", "klm"}},
+        {"free %s", {st}, 0, 2, "--------", "----w-r--", "----", "---", "--",
+         {MUONGRABI_STOP, 0, 6, 0, 0, 2, "ABCDEFGr", "STUVYXYyz", "abcd", "klm"}},
+        {"free %s", {uvw}, 0, 0, "--------", "--ww-rr--", "----", "---", "--",
+         {MUONGRABI_STOP, 0, 6, 0, 0, 2, "ABCDEFGr", "STXYWXYyz", "abcd", "klm"}},
+        {"free %s", {xy}, 0, 0, "w-------", "---------", "----", "---", "--",
+         {MUONGRABI_DONE, 0, 7, 0, 0, 2, "0BCDEFGr", "STUVWXYyz", "abcd", "klm"}},
+        /* 17: a ready mark where nothing can be ready, or what is ready would be refused */
+        {"zero 2,0,1", {st}, 1, 0, "--------", "---------", "----", "---", "--", {MUONGRABI_REFUSED, 0, 5, 1, 0, 3, "A", "S", "a", "k"}},
+        {"erase 2,0,1", {st}, SIZE_MAX, 0, "--------", "---------", "----", "---", "--", {MUONGRABI_REFUSED, 0, 5, SIZE_MAX, 0, 3, "A", "S", "a", "k"}},
+        {"new 2,0,1", {st}, 1, 0, "--------", "---------", "----", "---", "--", {MUONGRABI_REFUSED, 0, 5, 1, 0, 3, "A", "S", "a", "k"}},
+        {"free %s", {st}, 1, 0, "--------", "---------", "----", "---", "--", {MUONGRABI_REFUSED, 0, 5, 1, 0, 3, "A", "S", "a", "k"}},
+        {"free %s", {st}, 1, 1, "--------", "---------", "----", "---", "--", {MUONGRABI_REFUSED, 0, 5, 1, 1, 3, "A", "S", "a", "k"}},
+        {"imgdiff", {st}, 1, 0, "--------", "---------", "----", "---", "--", {MUONGRABI_REFUSED, 0, 5, 1, 0, 3, "A", "S", "a", "k"}},
+        {"move %s 2,1,3 2 2,3,", {de}, 1, 0, "--------", "---------", "----", "---", "--", {MUONGRABI_REFUSED, 0, 5, 1, 0, 3, "A", "S", "a", "k"}},
+        {"move %s 2,1,3 2 2,7,9", {de}, 1, 0, "--------", "---------", "----", "---", "--", {MUONGRABI_REFUSED, 0, 5, 1, 0, 3, "A", "S", "a", "k"}},
+        {"move %s 2,1,3 2 - %s:2,0,2", {de, de}, 1, 0, "--------", "---------", "----", "---", "--",
+         {MUONGRABI_REFUSED, 0, 5, 1, 0, 3, "A", "S", "a", "k"}},
+        {"stash %s 2,0,2", {xy}, 1, 0, "--------", "---------", "----", "---", "--", {MUONGRABI_REFUSED, 0, 5, 1, 0, 3, "A", "S", "a", "k"}},
+        {"stash %s 2,0,3", {de}, 1, 0, "--------", "---------", "----", "---", "--", {MUONGRABI_REFUSED, 0, 5, 1, 0, 3, "A", "S", "a", "k"}},
+        {"bsdiff 0 4201 %s %s 2,0,1 1 2,7,8", {r, s}, 1, 0, "--------", "---------", "----", "---", "--",
+         {MUONGRABI_REFUSED, 0, 5, 1, 0, 3, "A", "S", "a", "k"}},
+        /* 17: stretches of no `free`, of one that holds nothing, and as many as there are, or more */
+        {"move %s 2,1,3 2 2,3,5", {de}, 0, 1, "--------", "---------", "----", "---", "--", {MUONGRABI_REFUSED, 0, 5, 0, 1, 3, "A", "S", "a", "k"}},
+        {"move %s 2,1,3 2 2,3,5", {de}, 1, 1, "--------", "---------", "----", "---", "--", {MUONGRABI_REFUSED, 0, 5, 1, 1, 3, "A", "S", "a", "k"}},
+        {"zero 2,0,1", {st}, 0, 1, "--------", "---------", "----", "---", "--", {MUONGRABI_REFUSED, 0, 5, 0, 1, 3, "A", "S", "a", "k"}},
+        {"free %s", {de}, 0, 1, "--------", "---------", "----", "---", "--", {MUONGRABI_REFUSED, 0, 5, 0, 1, 3, "A", "S", "a", "k"}},
+        {"free %s", {st}, 0, 3, "--------", "---------", "----", "---", "--", {MUONGRABI_REFUSED, 0, 5, 0, 3, 3, "A", "S", "a", "k"}},
+        {"free %s", {st}, 0, SIZE_MAX, "--------", "---------", "----", "---", "--", {MUONGRABI_REFUSED, 0, 5, 0, SIZE_MAX, 3, "A", "S", "a", "k"}},
+        {"free %s", {st}, 0, SIZE_MAX / 2 + 2, "--------", "---------", "----", "---", "--",
+         {MUONGRABI_REFUSED, 0, 5, 0, SIZE_MAX / 2 + 2, 3, "A", "S", "a", "k"}},
+        {"free %s", {uvw}, 0, 1, "--------", "---------", "----", "---", "--", {MUONGRABI_REFUSED, 0, 5, 0, 1, 3, "A", "S", "a", "k"}},
+        {"free %s", {xy}, 0, 1, "--------", "---------", "----", "---", "--", {MUONGRABI_REFUSED, 0, 5, 0, 1, 3, "A", "S", "a", "k"}},
+    };
+    lot i = new_lot(8), h = new_lot(9), w = new_lot(4), t = new_lot(3), p = new_lot(2);
+    const char *rooms[] = {"wwwwwwww", "wwwwwwwww", "wwww", "www", "ww"};
+    for (size_t k = 0; k < sizeof steps / sizeof *steps; k++) {
+        char line[300];
+        int refused = steps[k].then.outcome == MUONGRABI_REFUSED;
+        snprintf(line, sizeof line, steps[k].line, steps[k].names[0], steps[k].names[1], steps[k].names[2]);
+        size_t length = (size_t)snprintf(text, sizeof text, "3\n0\n4\n9\n%s\nerase 2,0,1\n", line);
+        const lot *all[] = {&i, &h, &w, &t, &p};
+        for (int n = 0; n < 5; n++) allow(all[n], rooms[n]);
+        fill(i.first, "ABCDEFGr");
+        fill(h.first, "STUVWXYyz");
+        fill(w.first, "abcd");
+        fill(t.first, "klm");
+        memcpy(p.first, patch, patch_length);
+        muongrabi_state state;
+        memset(&state, 0, sizeof state);
+        state.at = 8;
+        state.line = 5;
+        state.count = 3;
+        state.sizes[0] = 2, state.sizes[1] = 3, state.sizes[2] = 2;
+        muongrabi_digest(h.first, 2 * BLOCK, state.hashes);
+        muongrabi_digest(h.first + 2 * BLOCK, 3 * BLOCK, state.hashes + 20);
+        muongrabi_digest(h.first + 5 * BLOCK, 2 * BLOCK, state.hashes + 40);
+        state.total = SIZE_MAX - 7;
+        state.ready = steps[k].ready;
+        state.stretches = steps[k].stretches;
+        state.lengths = (muongrabi_lengths){length, i.room, h.room, w.room, t.room, patch_length};
+        const char *pages[] = {steps[k].image, steps[k].stash, steps[k].work, steps[k].result, steps[k].patch};
+        for (int n = 0; n < 5; n++) allow(all[n], pages[n]);
+        muongrabi_state *called = lay_state(state, k % 2);
+        muongrabi_answer answer = muongrabi_call(lay(&list_lot, text, length, k % 2, 1), length, i.first, i.room, h.first, h.room, w.first, w.room,
+                                                 t.first, t.room, p.first, patch_length, lay(&piece_lot, "piece", 5, 1, 1), 5, called);
+        for (int n = 0; n < 5; n++) allow(all[n], rooms[n]);
+        const left *then = &steps[k].then;
+        check(answer.outcome == then->outcome && answer.taken == 0 && sound(&answer), line);
+        check(called->line == then->line && called->ready == then->ready && called->stretches == then->stretches && called->count == then->count &&
+              called->total == state.total, line);
+        check(holds(i.first, then->image) && holds(h.first, then->stash) && holds(w.first, then->work) && holds(t.first, then->result), line);
+        if (refused) check(is_refused(&answer, 17, 0, 0) && memcmp(called, &state, sizeof state) == 0, line);
+        if (!refused && called->count == 2) {
+            /* The younger ones are as they were. */
+            size_t gone = steps[k].names[0] == st ? 0 : steps[k].names[0] == uvw ? 1 : 2;
+            memmove(state.hashes + 20 * gone, state.hashes + 20 * (gone + 1), 20 * (2 - gone));
+            for (size_t n = gone; n < 2; n++) state.sizes[n] = state.sizes[n + 1];
+            check(memcmp(called->hashes, state.hashes, 40) == 0 && memcmp(called->sizes, state.sizes, 2 * sizeof(size_t)) == 0, line);
+        }
+    }
+
+    /* 17: a stash of no blocks, at each place, at a line that does not look at it. Past the count there may be one. */
+    for (size_t k = 0; k < 4; k++) {
+        size_t length = (size_t)snprintf(text, sizeof text, "3\n0\n4\n9\nerase 2,0,1\n");
+        muongrabi_state state;
+        memset(&state, 0, sizeof state);
+        state.at = 8;
+        state.line = 5;
+        state.count = 3;
+        for (size_t n = 0; n < 3; n++) {
+            memset(state.hashes + 20 * n, (int)n, 20);
+            state.sizes[n] = n == k ? 0 : 2;
+        }
+        state.lengths = (muongrabi_lengths){length, i.room, h.room, w.room, t.room, patch_length};
+        muongrabi_state *called = lay_state(state, k % 2);
+        fill(i.first, "A");
+        muongrabi_answer answer = muongrabi_call(lay(&list_lot, text, length, k % 2, 1), length, i.first, i.room, h.first, h.room, w.first, w.room,
+                                                 t.first, t.room, p.first, patch_length, NULL, 0, called);
+        if (k < 3) check(is_refused(&answer, 17, 0, 0) && memcmp(called, &state, sizeof state) == 0 && holds(i.first, "A"), "a stash of no blocks");
+        else check(answer.outcome == MUONGRABI_DONE && holds(i.first, "0"), "no stash of no blocks");
+    }
+
+    /* A ready mark at the text's end. */
+    muongrabi_state state = muongrabi_open((const uint8_t *)"3\n0\n0\n0\n", 8, 0, 0, 0, 0, 0);
+    state.ready = 1;
+    muongrabi_answer answer = muongrabi_call((const uint8_t *)"3\n0\n0\n0\n", 8, NULL, 0, NULL, 0, NULL, 0, NULL, 0, NULL, 0, NULL, 0, &state);
+    check(is_refused(&answer, 17, 0, 0) && state.ready == 1, "a ready mark at the end");
+}
+
+static void put_form_number(uint8_t *form, size_t *at, size_t number)
+{
+    for (int k = 0; k < 8; k++, number >>= 8) form[(*at)++] = (uint8_t)number;
+}
+
+/* The saved form as docs/SAVED-FORM.md has it. */
+static void form_of(const muongrabi_state *state, uint8_t form[MUONGRABI_SAVED])
+{
+    const muongrabi_refusal *refusal = &state->refusal;
+    const muongrabi_lengths *lengths = &state->lengths;
+    size_t progress[] = {state->count, state->line, state->at, state->into, state->total, state->ready, state->stretches};
+    size_t refused[] = {refusal->number, refusal->line, refusal->byte};
+    size_t opened[] = {lengths->list, lengths->image, lengths->stash, lengths->work, lengths->result, lengths->patch};
+    const struct {
+        char mark[3];
+        const size_t *numbers;
+        size_t count;
+    } records[] = {{"SB", state->sizes, MUONGRABI_MOST_STASHES}, {"SP", progress, 7}, {"SR", refused, 3}, {"SL", opened, 6}};
+    memcpy(form, "SH", 2);
+    memcpy(form + 2, state->hashes, sizeof state->hashes);
+    size_t at = 2 + sizeof state->hashes;
+    for (size_t k = 0; k < 4; k++) {
+        form[at++] = (uint8_t)records[k].mark[0];
+        form[at++] = (uint8_t)records[k].mark[1];
+        for (size_t j = 0; j < records[k].count; j++) put_form_number(form, &at, records[k].numbers[j]);
+    }
+    check(at == MUONGRABI_SAVED, "the length of a saved form");
+}
+
+static int in_a_mark(size_t at)
+{
+    static const size_t marks[] = {0, 5122, 7172, 7230, 7256};
+    for (size_t k = 0; k < sizeof marks / sizeof *marks; k++)
+        if (at == marks[k] || at == marks[k] + 1) return 1;
+    return 0;
+}
+
+/* 20, with no state. */
+static int is_none(const muongrabi_restored *restored)
+{
+    static const muongrabi_state zero;
+    return restored->number == MUONGRABI_REFUSAL_NO_SAVED_FORM && memcmp(&restored->state, &zero, sizeof zero) == 0;
+}
+
+/* Saved forms of any states, possible or not, against the pages; and bytes that are none. */
+static void saved_forms(void)
+{
+    static uint8_t form[MUONGRABI_SAVED], expected[MUONGRABI_SAVED], longer[MUONGRABI_SAVED + 100];
+    muongrabi_state state;
+    unsigned dice = 7;
+    for (int k = 0; k < 64; k++) {
+        /* All of one byte, each number a border, or any bytes. */
+        size_t numbers[sizeof state / sizeof(size_t)];
+        static const size_t borders[] = {0, 1, 255, 256, 257, 300, SIZE_MAX, SIZE_MAX - 1, (size_t)1 << 63, (size_t)1 << 32, 20};
+        for (size_t j = 0; j < sizeof numbers / sizeof *numbers; j++) {
+            dice = dice * 1103515245u + 12345u;
+            numbers[j] = k == 0 ? 0 : k == 1 ? SIZE_MAX : k % 2 ? borders[(dice >> 16) % 11] : (size_t)dice * 0x9e3779b97f4a7c15u;
+        }
+        memcpy(&state, numbers, sizeof state);
+        const muongrabi_state *from = lay_state(state, k % 2);
+        mprotect(state_lot.first, state_lot.room, PROT_READ);
+        memset(form, 0xa5, sizeof form);
+        uint8_t *out = lay(&form_lot, form, sizeof form, k / 2 % 2, 0);
+        muongrabi_save(from, out);
+        form_of(&state, expected);
+        check(memcmp(out, expected, sizeof expected) == 0, "a saved form");
+        mprotect(form_lot.first, form_lot.room, PROT_READ);
+        muongrabi_restored restored = muongrabi_restore(out, MUONGRABI_SAVED);
+        check(restored.number == 0 && memcmp(&restored.state, &state, sizeof state) == 0, "a state read back");
+    }
+
+    /* Each byte altered: 20 in a mark, else the state of which these are the saved form. In a mark, to every other value. */
+    int good = 1;
+    for (size_t at = 0; at < sizeof expected; at++) {
+        for (unsigned change = 1; change < 256; change += in_a_mark(at) ? 1 : 256) {
+            memcpy(form, expected, sizeof form);
+            form[at] ^= (uint8_t)(in_a_mark(at) ? change : 1 + at % 255);
+            const uint8_t *bytes = lay(&form_lot, form, sizeof form, (int)(at % 2), 1);
+            muongrabi_restored restored = muongrabi_restore(bytes, sizeof form);
+            if (in_a_mark(at)) {
+                good &= is_none(&restored);
+            } else {
+                uint8_t again[MUONGRABI_SAVED];
+                muongrabi_save(&restored.state, again);
+                good &= restored.number == 0 && memcmp(again, form, sizeof form) == 0;
+            }
+        }
+    }
+    check(good, "each byte of a saved form altered");
+
+    /* Every other length, of good bytes and of more behind them. */
+    good = 1;
+    memcpy(longer, expected, sizeof expected);
+    for (size_t n = 0; n <= sizeof longer; n += n < 16 || n + 16 > MUONGRABI_SAVED ? 1 : 61) {
+        if (n == MUONGRABI_SAVED) continue;
+        muongrabi_restored restored = muongrabi_restore(lay(&form_lot, longer, n, (int)(n % 2), 1), n);
+        good &= is_none(&restored);
+    }
+    for (size_t n = MUONGRABI_SAVED - 1; n <= MUONGRABI_SAVED + 1; n += 2) {
+        muongrabi_restored restored = muongrabi_restore(lay(&form_lot, longer, n, 1, 1), n);
+        good &= is_none(&restored);
+    }
+    check(good, "bytes of another length");
+    lot none = new_lot(0);
+    muongrabi_restored restored = muongrabi_restore(none.first, 0);
+    check(is_none(&restored), "no bytes");
+
+    /* Memory of exactly the lengths that are lent, so that a sanitizer or valgrind sees its ends too. */
+    for (size_t n = MUONGRABI_SAVED - 1; n <= MUONGRABI_SAVED + 1; n++) {
+        muongrabi_state *from = malloc(sizeof *from);
+        uint8_t *out = malloc(MUONGRABI_SAVED), *bytes = malloc(n);
+        if (!from || !out || !bytes) exit(2);
+        *from = state;
+        muongrabi_save(from, out);
+        memset(bytes, 0, n);
+        memcpy(bytes, out, n < MUONGRABI_SAVED ? n : MUONGRABI_SAVED);
+        restored = muongrabi_restore(bytes, n);
+        check(n == MUONGRABI_SAVED ? restored.number == 0 && memcmp(&restored.state, &state, sizeof state) == 0 : is_none(&restored),
+              "a saved form in allocated memory");
+        free(from);
+        free(out);
+        free(bytes);
     }
 }
 
@@ -813,7 +1244,7 @@ static void null_pointers(void)
     static const char *one = "3\n1\n0\n0\nnew 2,0,1\n";
     static uint8_t image[BLOCK], data[BLOCK];
     uint8_t nothing[20], hash[20];
-    check(muongrabi_abi_4() == MUONGRABI_ABI, "the archive is of this header");
+    check(muongrabi_abi_5() == MUONGRABI_ABI, "the archive is of this header");
     muongrabi_digest((const uint8_t *)"", 0, nothing);
     muongrabi_digest(NULL, 0, hash);
     check(memcmp(hash, nothing, 20) == 0, "digest of null");
@@ -847,6 +1278,12 @@ static void null_pointers(void)
     answer = called(list, strlen(one), image, BLOCK, NULL, 0, NULL, 0, NULL, 0, NULL, 0, data, BLOCK, &state);
     check(answer.outcome == MUONGRABI_DONE && answer.taken == BLOCK, "null through a function pointer");
 
+    muongrabi_restored restored = muongrabi_restore(NULL, 0);
+    check(is_none(&restored), "null restored");
+    muongrabi_restored (*restore)(const uint8_t *, size_t) = muongrabi_restore;
+    restored = restore(NULL, MUONGRABI_SAVED);
+    check(is_none(&restored), "null with a length restored, through a function pointer");
+
     make_sparse_file();
     check(muongrabi_sparse_load(NULL, sparse_length, image, BLOCK) == MUONGRABI_REFUSAL_SPARSE_HEADER, "a null sparse file with a length");
     check(muongrabi_sparse_load(sparse_file, sparse_length, NULL, 5 * BLOCK) == MUONGRABI_REFUSAL_SPARSE_IMAGE, "a null image of a sparse file");
@@ -861,7 +1298,7 @@ static void refusal_texts(void)
     const char *other = muongrabi_refusal_text(SIZE_MAX);
     int good = 1;
     for (size_t k = 0; k <= MUONGRABI_REFUSAL_SPARSE_END + 1; k++) {
-        int is_one = k <= MUONGRABI_REFUSAL_PATCH_MALFORMED || (k >= MUONGRABI_REFUSAL_SPARSE_HEADER && k <= MUONGRABI_REFUSAL_SPARSE_END);
+        int is_one = k <= MUONGRABI_REFUSAL_NO_SAVED_FORM || (k >= MUONGRABI_REFUSAL_SPARSE_HEADER && k <= MUONGRABI_REFUSAL_SPARSE_END);
         good &= (strcmp(muongrabi_refusal_text(k), other) != 0) == is_one;
         for (size_t j = 0; is_one && j < k; j++) good &= strcmp(muongrabi_refusal_text(k), muongrabi_refusal_text(j)) != 0;
     }
@@ -869,6 +1306,7 @@ static void refusal_texts(void)
     check(strstr(muongrabi_refusal_text(MUONGRABI_REFUSAL_UNSUPPORTED), "imgdiff") != NULL, "texts stand at their numbers");
     check(strstr(muongrabi_refusal_text(MUONGRABI_REFUSAL_PATCH_MALFORMED), "malformed") != NULL, "texts stand at their numbers");
     check(strstr(muongrabi_refusal_text(MUONGRABI_REFUSAL_HASH_DIFFERS), "hash") != NULL, "texts stand at their numbers");
+    check(strstr(muongrabi_refusal_text(MUONGRABI_REFUSAL_NO_SAVED_FORM), "saved form") != NULL, "texts stand at their numbers");
     check(strstr(muongrabi_refusal_text(MUONGRABI_REFUSAL_SPARSE_CHECKSUM), "0xCAC4") != NULL, "texts stand at their numbers");
 }
 
@@ -885,6 +1323,7 @@ int main(void)
     hash_lot = new_lot(1);
     file_lot = new_lot(3);
     state_lot = new_lot(2);
+    form_lot = new_lot(3);
     digests();
     size_t length = make_list();
     whole_runs(length);
@@ -894,6 +1333,9 @@ int main(void)
     nothing_lent();
     faults();
     states_in_place();
+    every_stop();
+    what_a_step_touches();
+    saved_forms();
     sparse_files();
     sparse_files_in_allocated_memory();
     null_pointers();

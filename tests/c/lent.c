@@ -11,6 +11,8 @@
 #undef muongrabi_open
 #undef muongrabi_call
 #undef muongrabi_run
+#undef muongrabi_save
+#undef muongrabi_restore
 #undef muongrabi_sparse_load
 
 static const void *pointers[10];
@@ -24,7 +26,7 @@ static void note(int k, const void *pointer, size_t length)
     lengths[k] = length;
 }
 
-size_t muongrabi_abi_4(void)
+size_t muongrabi_abi_5(void)
 {
     asked++;
     return MUONGRABI_ABI;
@@ -100,6 +102,26 @@ muongrabi_export_answer muongrabi_run(const uint8_t *list, size_t list_length, u
     return answered(hashes, sizes, 200);
 }
 
+void muongrabi_save(const uint8_t hashes[20 * MUONGRABI_MOST_STASHES], const size_t sizes[MUONGRABI_MOST_STASHES],
+                    muongrabi_progress progress, uint8_t out[MUONGRABI_SAVED])
+{
+    note(0, out, MUONGRABI_SAVED);
+    pointers[8] = hashes;
+    pointers[9] = sizes;
+    progressed = progress;
+    out[MUONGRABI_SAVED - 1] = 77;
+}
+
+muongrabi_restored muongrabi_restore(const uint8_t *bytes, size_t bytes_length)
+{
+    muongrabi_restored restored;
+    size_t numbers[sizeof restored / sizeof(size_t)];
+    for (size_t k = 0; k < sizeof numbers / sizeof *numbers; k++) numbers[k] = 500 + k;
+    memcpy(&restored, numbers, sizeof restored);
+    note(0, bytes, bytes_length);
+    return restored;
+}
+
 uint32_t muongrabi_sparse_load(const uint8_t *file, size_t file_length, uint8_t *image, size_t image_length)
 {
     note(0, file, file_length);
@@ -140,7 +162,7 @@ static muongrabi_state state_of(uint8_t bytes, size_t first)
 static int put_back(const muongrabi_state *state, const muongrabi_answer *answer, uint8_t bytes, size_t first)
 {
     muongrabi_state expected = state_of(bytes, first);
-    size_t numbers[] = {first + 13, first + 14, first + 15, first + 16, first + 17};
+    size_t numbers[] = {first + 16, first + 17, first + 18, first + 19, first + 20};
     expected.hashes[20 * MUONGRABI_MOST_STASHES - 1] = (uint8_t)first;
     expected.sizes[MUONGRABI_MOST_STASHES - 1] = first;
     return pointers[8] == state->hashes && pointers[9] == state->sizes && memcmp(state, &expected, sizeof expected) == 0 &&
@@ -180,6 +202,20 @@ int main(void)
         good = asked == 1 && state.line == 7 && handed_on(0, given[0]);
         for (int k = 1; k < 6; k++) good &= lengths[k] == (size_t)(10 + k);
         check(good, "open", null);
+
+        /* Neither pointer may be null: the state goes as it lies, and stays. */
+        static uint8_t form[MUONGRABI_SAVED];
+        asked = 0;
+        state = state_of(0x3c, 600);
+        before = state;
+        muongrabi_save_lent(&state, form);
+        check(asked == 1 && pointers[0] == form && pointers[8] == state.hashes && pointers[9] == state.sizes && form[MUONGRABI_SAVED - 1] == 77 &&
+              memcmp(&progressed, &before.count, sizeof progressed) == 0 && memcmp(&state, &before, sizeof before) == 0, "save", null);
+
+        asked = 0;
+        muongrabi_restored restored = muongrabi_restore_lent(given[0], 10);
+        good = asked == 1 && restored.number == 500 && restored.state.lengths.patch == 500 + sizeof restored / sizeof(size_t) - 1;
+        check(good && handed_on(0, given[0]), "restore", null);
 
         asked = 0;
         check(muongrabi_sparse_load_lent(given[0], 10, given[1], 11) == 36 && asked == 1 && handed_on(0, given[0]) && handed_on(1, given[1]),

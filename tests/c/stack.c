@@ -93,10 +93,16 @@ static void open_list(void)
     state = muongrabi_open((const uint8_t *)list, list_length, sizeof image, sizeof stash, sizeof work, sizeof result, sizeof patch);
 }
 
+/* Past every stop; the answer's taken is then the sum. */
 static void call_list(void)
 {
-    answer = muongrabi_call((const uint8_t *)list, list_length, image, sizeof image, stash, sizeof stash, work, sizeof work,
-                            result, sizeof result, patch, sizeof patch, data, sizeof data, &state);
+    size_t used = 0;
+    do {
+        answer = muongrabi_call((const uint8_t *)list, list_length, image, sizeof image, stash, sizeof stash, work, sizeof work,
+                                result, sizeof result, patch, sizeof patch, data + used, sizeof data - used, &state);
+        used += answer.taken;
+    } while (answer.outcome == MUONGRABI_STOP);
+    answer.taken = used;
 }
 
 static void run_list(void)
@@ -109,6 +115,19 @@ static void run_list(void)
 static int finished(void)
 {
     return answer.outcome == MUONGRABI_DONE && answer.taken == sizeof data && state.count == MOST - 1;
+}
+
+static uint8_t form[MUONGRABI_SAVED];
+static muongrabi_restored restored;
+
+static void save_state(void)
+{
+    muongrabi_save(&state, form);
+}
+
+static void restore_state(void)
+{
+    restored = muongrabi_restore(form, sizeof form);
 }
 
 static void hash_bytes(void)
@@ -167,6 +186,9 @@ int main(void)
     check(taken("call", call_list) <= MOST_OF_CALL && finished(), "a call");
     for (size_t k = 0; k < sizeof image; k++) image[k] = (uint8_t)(k / BLOCK + k % 251);
     check(taken("run", run_list) <= MOST_TAKEN && finished(), "a run");
+    check(taken("saving", save_state) <= MOST_TAKEN, "saving a state");
+    check(taken("restoring", restore_state) <= MOST_TAKEN && restored.number == 0 && memcmp(&restored.state, &state, sizeof state) == 0,
+          "restoring a state");
     check(taken("digest", hash_bytes) <= MOST_TAKEN, "a digest");
     check(taken("sparse file", load_file) <= MOST_TAKEN, "a sparse file's stack");
     printf("%d passed, %d failed\n", passed, failed);

@@ -24,6 +24,7 @@ use text::hash::HASH_BYTES;
 mod bsdiff;
 pub mod faults;
 pub mod field;
+pub mod filling;
 pub mod parts;
 pub mod patching;
 pub mod source;

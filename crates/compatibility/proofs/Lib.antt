@@ -3,6 +3,7 @@ pub mod Parts
 pub mod Lines
 pub mod Starts
 pub mod Openings
+pub mod Machines
 pub mod Runs
 pub mod Models
 pub mod Theorem

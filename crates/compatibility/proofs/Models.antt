@@ -15,7 +15,6 @@ use Rattle.state.specs.Limits.{blockBytes}
 use Rattle.state.specs.Refusals.{none}
 use Rattle.command.specs.Commands.{commandOf}
 use Rattle.command.specs.Targets.{newTarget, onNewTarget}
-use Rattle.command.specs.declared.Command.the-variants as command
 use Rattle.command.specs.declared.targets.NewTarget.{NewTarget}
 use Rattle.command.specs.declared.targets.NewTarget.the-variants as new
 use Rattle.command.specs.declared.Line.{Line}

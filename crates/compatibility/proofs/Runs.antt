@@ -1,31 +1,32 @@
--- Calls by the two readings: over a list without an empty range two runs go together, until a line that is ill formed in both stops both.
+-- Calls by the two readings: over a list without an empty range two runs go together, step by step and stop by stop, until a line that is ill
+-- formed in both refuses both.
 -- Assumes nothing.
 use mathlib.Core.Path.{_≡_, refl, sym, _∙_, ap, subst}
 use mathlib.Core.Bool.{Bool, true, false}
 use mathlib.Core.Logic.{⊎-elim}
-use Prim.Native.Nat.{ℕ, zero, suc, _-_}
+use Prim.Native.Nat.{ℕ}
 use native.Mathlib.Omega.{arith}
-use mathlib.Core.List.{List, [], _∷_}
+use mathlib.Core.List.{List, []}
 use lib.ListN.{length, set}
 use lib.Dec.{leb, ltb, eqb}
 use borrow.Author.Tests.{eqb-true}
-use Rattle.text.specs.Choice.{pick, both, either}
+use Rattle.text.specs.Choice.{pick, both, either, no}
 use Rattle.text.specs.Line.{lineAt}
-use Rattle.text.proofs.ChoiceLaws.{bool, both-true}
+use Rattle.text.proofs.ChoiceLaws.{bool, both-true, either-false}
 use Rattle.ranges.specs.Ranges.{leastBlocks}
 use Rattle.state.specs.Refusals.{none, lineForm, stateImpossible}
-use Rattle.state.specs.Stashes.{held, tableOf}
-use Rattle.state.specs.States.{refusing, withTable, withRefusal}
+use Rattle.state.specs.Stashes.{Stash, held, tableOf}
+use Rattle.state.specs.States.{refusing, withRefusal, isReady}
 use Rattle.state.specs.declared.Lengths.{Lengths}
 use Rattle.state.specs.declared.Refusal.{Refusal}
 use Rattle.state.specs.declared.State.{State}
 use Rattle.command.specs.Commands.{commandOf}
 use Rattle.command.specs.Faults.{faultByte}
+use Rattle.command.specs.Filling.{fills}
 use Rattle.command.specs.Targets.{newTarget}
 use Rattle.command.specs.declared.Command.{Command}
 use Rattle.command.specs.declared.Command.the-variants as command
 use Rattle.command.specs.declared.Line.{Line}
-use Rattle.rules.specs.Held.{tableAfter}
 use Rattle.rules.specs.Rules.{refusalFor, refusalOf}
 use Rattle.rules.specs.declared.Terms.{Terms}
 use Rattle.transfer_list.specs.Header.{headerOf, startRefusal}
@@ -33,14 +34,15 @@ use Rattle.transfer_list.specs.Opening.{termsOf}
 use Rattle.transfer_list.specs.declared.header.Header.{Header}
 use Rattle.transfer_list.specs.declared.header.HeaderRead.{HeaderRead}
 use Rattle.transfer_list.specs.declared.header.HeaderRead.the-variants.{Good, Bad}
-use Rattle.possible.specs.Possible.{sameLengths, atLine, canHold, hasMore, canBeInto, possibleUnder, isPossible, termsFor}
-use Rattle.machine.specs.Machine.{Machine, run, advance, feeds, counts}
+use Rattle.possible.specs.Possible.{sameLengths, atLine, canHold, hasMore, canBeInto, canBeReady, freesOn, canBeStretched, possibleUnder, isPossible, termsFor}
+use Rattle.machine.specs.Machine.{Machine}
 use Rattle.updater.specs.Areas.{Areas, withImage}
 use Rattle.updater.specs.Bytes.{addressOf}
-use Rattle.updater.specs.Effect.{effect}
-use Rattle.updater.specs.Steps.{Config, configOf, passed, refusedWith, furtherInto, stateAfter, after}
-use Rattle.updater.specs.Run.{currentLine, refusedAt, quietStep, newBlocks, newBytes, putByte, isStopped, needsByte, machine}
-use Rattle.updater.specs.Calls.{outcomeAt, outcomeOf, lengthsAt, isRun, leaves, takes, says}
+use Rattle.updater.specs.Steps.{Config, configOf, passed, refusedWith, furtherInto, markedWith, stateAfter, stopsAfter, stepAt, after}
+use Rattle.updater.specs.Run.{currentLine, refusedAt, quietStep, haltsAt, newBlocks, newBytes, putByte, isStopped, needsByte, machine, runOf}
+use Rattle.updater.specs.Calls.{outcomeAt, outcomeOf, lengthsAt, isRun, leaves, takes, stops, says}
+use Rattle.updater.specs.declared.commands.StepEnd.{StepEnd}
+use Rattle.updater.specs.declared.commands.StepEnd.the-variants.{Passed, Ended, Filled, Stretched, Refused}
 use Rattle.updater.specs.declared.Outcome.{Outcome}
 use Rattle.updater.specs.declared.Outcome.the-variants as outcome
 use Rattle.compatibility.specs.EmptyRanges.{leastBefore, WithoutEmpty}
@@ -48,6 +50,7 @@ use Rattle.compatibility.specs.Matching.{MatchingRefusals, MatchingState
 use Rattle.compatibility.specs.AsBefore.{SameCall}
 use Rattle.compatibility.proofs.Lines.{clash, IllCommand, SameLine, same, ill, line-same}
 use Rattle.compatibility.proofs.Starts.{StartsAt, next-starts, state-starts}
+use Rattle.compatibility.proofs.Machines.{Alike, ends-alike, takes-alike}
 use Rattle.compatibility.proofs.Openings.{matching-refusal, matching-six, matching-state, ill-refused}
 
 pub matching-config : (p : Config) → MatchingConfigs p p
@@ -69,6 +72,10 @@ ill-more : (terms : Terms) (into : ℕ) {c : Command} {p : ℕ} → c ≡ comman
 unfolding hasMore newTarget
 ill-more terms into e = rw e
 
+ill-frees : (held : List Stash) (k : ℕ) (hash : List ℕ) {c : Command} {p : ℕ} → c ≡ command.Bad p → freesOn held k hash c ≡ false
+unfolding freesOn
+ill-frees held k hash e = rw e
+
 module _ (s : List ℕ) (w : WithoutEmpty s) where
   -- ---- a line
 
@@ -76,24 +83,23 @@ module _ (s : List ℕ) (w : WithoutEmpty s) where
   here {at} x = line-same (lineAt s at) (rw (x .place) (w (x .line) (x .command)))
 
   module _ (terms : Terms) where
-    -- ---- two runs: they stand at the same place, or both have stopped with a refusal
+    -- ---- two runs: they stand at the same place, or both have ended with a refusal
 
     data Together (p q : Config) : Type 0 where
       going : p ≡ q → StartsAt s (p .state .at) → Together p q
-      halted : eqb (p .state .refusal .number) none ≡ false → MatchingConfigs p q → Together p q
+      refused : eqb (p .state .refusal .number) none ≡ false → MatchingConfigs p q → Together p q
 
     matching : {p q : Config} → Together p q → MatchingConfigs p q
     matching {p} (going e x) = subst (MatchingConfigs p) e (matching-config p)
-    matching (halted e k) = k
+    matching (refused e k) = k
 
-    stopped-same : {p q : Config} → Together p q → isStopped s p ≡ isStopped s q
-    unfolding isStopped
-    stopped-same (going e x) = ap (isStopped s) e
-    stopped-same (halted e k) = rw (e, sym (k .state .refusal .number), e)
+    -- what matches a refused one is refused
+    refused-too : {p q : Config} → eqb (p .state .refusal .number) none ≡ false → MatchingConfigs p q → eqb (q .state .refusal .number) none ≡ false
+    refused-too e k = rw (sym (k .state .refusal .number)) e
 
-    halted-stops : (p : Config) → eqb (p .state .refusal .number) none ≡ false → isStopped s p ≡ true
+    refused-stops : (p : Config) → eqb (p .state .refusal .number) none ≡ false → isStopped s p ≡ true
     unfolding isStopped
-    halted-stops p e = rw e
+    refused-stops p e = rw e
 
     -- ---- what is done at a line, by what was read of it
 
@@ -116,23 +122,28 @@ module _ (s : List ℕ) (w : WithoutEmpty s) where
           (after (currentLine s p) (a .hash) (a .command) p)
           (refusedAt (number a) (faultByte (p .state .at) (a .command)) p)
 
+      abbrev halts : Line → Bool
+      halts a = both (eqb (number a) none) (stopsAfter (stepAt (currentLine s p) (a .hash) (a .command) p .end))
+
       no-blocks : {c : Command} → IllCommand (currentLine s p) c → newBlocks (currentLine s p) c ≡ []
       unfolding newBlocks newTarget
       no-blocks i = rw (i .1)
 
-      -- a line's step leaves it, or stays at it
+      -- a step leaves the line, or stays at it
       steps-starts : (a : Line) → StartsAt s (p .state .at) → StartsAt s (steps a .state .at)
-      unfolding after stateAfter passed refusedWith refusedAt
-      steps-starts a x = go (eqb (number a) none) (eqb (effect (currentLine s p) (held (p .state)) (a .hash) (a .command) (p .areas) .refusal) none)
+      unfolding after stateAfter passed markedWith refusedWith refusedAt
+      steps-starts a x = go (eqb (number a) none) (stepAt (currentLine s p) (a .hash) (a .command) p .end)
         where
-          go : (t u : Bool) →
-              StartsAt s (pick t (configOf (effect (currentLine s p) (held (p .state)) (a .hash) (a .command) (p .areas) .areas)
-              (pick u (passed (withTable (p .state) (tableAfter (tableOf (p .state)) (a .hash) (a .command))) (length (currentLine s p)))
-              (refusedWith (p .state) (effect (currentLine s p) (held (p .state)) (a .hash) (a .command) (p .areas) .refusal) 0)))
+          go : (t : Bool) (end : StepEnd) →
+              StartsAt s (pick t (configOf (stepAt (currentLine s p) (a .hash) (a .command) p .areas)
+              (stateAfter (currentLine s p) (a .hash) (a .command) (p .state) end))
               (refusedAt (number a) (faultByte (p .state .at) (a .command)) p) .state .at)
-          go true true = next-starts x
-          go true false = x
-          go false u = x
+          go true Passed = next-starts x
+          go true Ended = next-starts x
+          go true Filled = x
+          go true Stretched = x
+          go true (Refused number) = x
+          go false end = x
 
     module _ (p : Config) (x : StartsAt s (p .state .at)) where
       needs-same : needsByte leastBefore s terms p ≡ needsByte leastBlocks s terms p
@@ -155,18 +166,26 @@ module _ (s : List ℕ) (w : WithoutEmpty s) where
       unfolding putByte furtherInto
       put-starts y = x
 
+      halts-same : haltsAt leastBefore s terms p ≡ haltsAt leastBlocks s terms p
+      unfolding haltsAt refusalOf
+      halts-same = go (commandOf leastBefore (currentLine s p)) (commandOf leastBlocks (currentLine s p)) (here x)
+        where
+          go : (a b : Line) → SameLine (currentLine s p) a b → halts p a ≡ halts p b
+          go a b (same e) = ap (halts p) e
+          go a b (ill e i j) = rw (ill-refused (currentLine s p) a terms (held (p .state)) i, ill-refused (currentLine s p) b terms (held (p .state)) j)
+
       step-together : Together (quietStep leastBefore s terms p) (quietStep leastBlocks s terms p)
       unfolding quietStep refusalOf refusedAt refusedWith
       step-together = go (commandOf leastBefore (currentLine s p)) (commandOf leastBlocks (currentLine s p)) (here x)
         where
-          refused : (a : Line) → IllCommand (currentLine s p) (a .command) → steps p a ≡ refusedAt lineForm (faultByte (p .state .at) (a .command)) p
-          refused a i = rw (ill-refused (currentLine s p) a terms (held (p .state)) i)
+          stays : (a : Line) → IllCommand (currentLine s p) (a .command) → steps p a ≡ refusedAt lineForm (faultByte (p .state .at) (a .command)) p
+          stays a i = rw (ill-refused (currentLine s p) a terms (held (p .state)) i)
 
           go : (a b : Line) → SameLine (currentLine s p) a b → Together (steps p a) (steps p b)
           go a b (same e) = going (ap (steps p) e) (steps-starts p a x)
           go a b (ill e i j) =
-              rw (refused a i, refused b j)
-              (halted refl (record {
+              rw (stays a i, stays b j)
+              (refused refl (record {
                 areas = refl;
                 state = record {
                   refusal = matching-six (p .state .line) (faultByte (p .state .at) (a .command)) (faultByte (p .state .at) (b .command));
@@ -174,7 +193,7 @@ module _ (s : List ℕ) (w : WithoutEmpty s) where
                 };
               }))
 
-    -- ---- many steps
+    -- ---- the two machines
 
     abbrev before : Machine
     before = machine leastBefore s terms
@@ -182,78 +201,60 @@ module _ (s : List ℕ) (w : WithoutEmpty s) where
     abbrev now : Machine
     now = machine leastBlocks s terms
 
-    choose : (t u : Bool) (p a b : Config) → t ≡ u → Together p p → Together a b → Together (pick t p a) (pick u p b)
-    choose true true p a b e j k = j
-    choose true false p a b e j k = absurd (clash refl e)
-    choose false true p a b e j k = absurd (clash e refl)
-    choose false false p a b e j k = k
+    -- a refused one waits, so none that steps is refused
+    quiet-goes : (p : Config) → before .waits p ≡ false → eqb (p .state .refusal .number) none ≡ false → ⊥
+    quiet-goes p w e = clash (refused-stops p e) (either-false (isStopped s p) (needsByte leastBefore s terms p) w .0)
 
-    -- a run that has stopped stays
-    stays : (least f : ℕ) (p : Config) → isStopped s p ≡ true → run (machine least s terms) f p ≡ p
-    unfolding run
-    stays least zero p e = refl
-    stays least (suc f) p e = rw e
-
-    run-together : (f : ℕ) (p q : Config) → Together p q → Together (run before f p) (run now f q)
-    unfolding run
-    run-together zero p q k = k
-    run-together (suc f) p q k = go p q k (run-together f)
+    machines-alike : Alike before now Together
+    machines-alike =
+        record {
+          waits = waits-same;
+          stopped = stopped-same;
+          fuel = fuel-same;
+          quiet = quiet-together;
+          put = put-together;
+        }
       where
-        go : (p q : Config) → Together p q → ((p q : Config) → Together p q → Together (run before f p) (run now f q)) →
-            Together (run before (suc f) p) (run now (suc f) q)
-        go p q (halted e k) rest =
-            rw (
-              stays leastBefore (suc f) p (halted-stops p e),
-              stays leastBlocks (suc f) q (sym (stopped-same (halted e k)) ∙ halted-stops p e),
-            ) (halted e k)
-        go p q (going e x) rest =
-            subst (λ q. Together (run before (suc f) p) (run now (suc f) q)) e
-            (choose (either (isStopped s p) (needsByte leastBefore s terms p)) (either (isStopped s p) (needsByte leastBlocks s terms p)) p
-            (run before f (quietStep leastBefore s terms p)) (run now f (quietStep leastBlocks s terms p))
-            (ap (either (isStopped s p)) (needs-same p x)) (going refl x)
-            (rest (quietStep leastBefore s terms p) (quietStep leastBlocks s terms p) (step-together p x)))
+        waits-same : (p q : Config) → Together p q → before .waits p ≡ now .waits q
+        waits-same p q (going e x) = subst (λ q. before .waits p ≡ now .waits q) e (ap (either (isStopped s p)) (needs-same p x))
+        waits-same p q (refused e k) = rw (refused-stops p e, refused-stops q (refused-too e k))
 
-    advance-together : (p q : Config) → Together p q → Together (advance before p) (advance now q)
-    unfolding advance
-    advance-together p q (going e x) =
-        subst (λ q. Together (advance before p) (advance now q)) e (run-together (before .fuel p) p p (going refl x))
-    advance-together p q (halted e k) =
-        rw (stays leastBefore (before .fuel p) p (halted-stops p e), stays leastBlocks (now .fuel q) q (sym (stopped-same (halted e k)) ∙ halted-stops p e))
-        (halted e k)
+        stopped-same : (p q : Config) → Together p q → isStopped s p ≡ isStopped s q
+        stopped-same p q (going e x) = ap (isStopped s) e
+        stopped-same p q (refused e k) = rw (refused-stops p e, refused-stops q (refused-too e k))
 
-    -- a byte, where neither has stopped
-    put-together : (y : ℕ) (p q : Config) → isStopped s p ≡ false → Together p q → Together (putByte leastBefore s y p) (putByte leastBlocks s y q)
-    put-together y p q f (going e x) =
-        subst (λ q. Together (putByte leastBefore s y p) (putByte leastBlocks s y q)) e (going (put-same p x y) (put-starts p x y))
-    put-together y p q f (halted e k) = absurd (clash (halted-stops p e) f)
+        fuel-same : (p q : Config) → Together p q → before .fuel p ≡ now .fuel q
+        fuel-same p q (going e x) = ap (before .fuel) e
+        fuel-same p q (refused e k) = rw (e, refused-too e k)
 
-    feeds-together : (xs : List ℕ) (p q : Config) → Together p q → Together (feeds before xs p) (feeds now xs q)
-    unfolding feeds
-    feeds-together [] p q k = advance-together p q k
-    feeds-together (y ∷ xs) p q k =
-        go (advance before p) (advance now q) (advance-together p q k) (λ a b f j. feeds-together xs (putByte leastBefore s y a) (putByte leastBlocks s y b) (put-together y a b f j))
-        (isStopped s (advance before p)) refl
-      where
-        go : (a b : Config) → Together a b →
-            ((a b : Config) → isStopped s a ≡ false → Together a b → Together (feeds before xs (putByte leastBefore s y a)) (feeds now xs (putByte leastBlocks s y b))) →
-            (t : Bool) → isStopped s a ≡ t →
-            Together (pick (isStopped s a) a (feeds before xs (putByte leastBefore s y a))) (pick (isStopped s b) b (feeds now xs (putByte leastBlocks s y b)))
-        go a b j rest true e = rw (sym (stopped-same j), e) j
-        go a b j rest false e = rw (sym (stopped-same j), e) (rest a b e j)
+        quiet-together : (p q : Config) → Together p q → before .waits p ≡ false → Together (before .quiet p) (now .quiet q)
+        quiet-together p q (going e x) w = subst (λ q. Together (before .quiet p) (now .quiet q)) e (step-together p x)
+        quiet-together p q (refused e k) w = absurd (quiet-goes p w e)
 
-    counts-same : (xs : List ℕ) (p q : Config) → Together p q → counts before xs p ≡ counts now xs q
-    unfolding counts
-    counts-same [] p q k = refl
-    counts-same (y ∷ xs) p q k =
-        go (advance before p) (advance now q) (advance-together p q k) (λ a b f j. counts-same xs (putByte leastBefore s y a) (putByte leastBlocks s y b) (put-together y a b f j))
-        (isStopped s (advance before p)) refl
-      where
-        go : (a b : Config) → Together a b →
-            ((a b : Config) → isStopped s a ≡ false → Together a b → counts before xs (putByte leastBefore s y a) ≡ counts now xs (putByte leastBlocks s y b)) →
-            (t : Bool) → isStopped s a ≡ t →
-            pick (isStopped s a) zero (suc (counts before xs (putByte leastBefore s y a))) ≡ pick (isStopped s b) zero (suc (counts now xs (putByte leastBlocks s y b)))
-        go a b j rest true e = rw (sym (stopped-same j), e)
-        go a b j rest false e = rw (sym (stopped-same j), e) (ap suc (rest a b e j))
+        put-together : (y : ℕ) (p q : Config) → Together p q → isStopped s p ≡ false → Together (before .put y p) (now .put y q)
+        put-together y p q (going e x) f = subst (λ q. Together (before .put y p) (now .put y q)) e (going (put-same p x y) (put-starts p x y))
+        put-together y p q (refused e k) f = absurd (clash (refused-stops p e) f)
+
+    stops-alike : (p q : Config) → Together p q → before .waits p ≡ false → haltsAt leastBefore s terms p ≡ haltsAt leastBlocks s terms q
+    stops-alike p q (going e x) w = subst (λ q. haltsAt leastBefore s terms p ≡ haltsAt leastBlocks s terms q) e (halts-same p x)
+    stops-alike p q (refused e k) w = absurd (quiet-goes p w e)
+
+    -- ---- a run
+
+    record SameRun (piece : List ℕ) (p q : Config) : Type 0 where
+      config : MatchingConfigs (runOf leastBefore s terms piece p .config) (runOf leastBlocks s terms piece q .config)
+      taken : runOf leastBefore s terms piece p .taken ≡ runOf leastBlocks s terms piece q .taken
+      stop : runOf leastBefore s terms piece p .stop ≡ runOf leastBlocks s terms piece q .stop
+
+    run-same : (piece : List ℕ) (p : Config) → StartsAt s (p .state .at) → SameRun piece p p
+    unfolding runOf
+    run-same piece p x =
+        let k = ends-alike before now Together machines-alike _ _ stops-alike piece p p (going refl x) in
+        record {
+          config = matching (k .config);
+          taken = takes-alike before now Together machines-alike _ _ stops-alike piece p p (going refl x);
+          stop = k .halted;
+        }
 
   -- ---- 17
 
@@ -268,14 +269,50 @@ module _ (s : List ℕ) (w : WithoutEmpty s) where
       go a b (same e) = ap (λ (a : Line). either (eqb into 0) (hasMore terms into (a .command))) e
       go a b (ill e i j) = rw (nothing i, nothing j)
 
+  ready-same : (terms : Terms) (at : ℕ) (held : List Stash) (ready : ℕ) → StartsAt s at →
+      canBeReady leastBefore s terms at held ready ≡ canBeReady leastBlocks s terms at held ready
+  unfolding canBeReady refusalOf
+  ready-same terms at held ready x = go (commandOf leastBefore (lineAt s at)) (commandOf leastBlocks (lineAt s at)) (here x)
+    where
+      can : Line → Bool
+      can a = either (no (isReady ready)) (both (eqb (refusalFor (lineAt s at) terms held (a .hash) (a .command)) none) (fills (a .command)))
+
+      go : (a b : Line) → SameLine (lineAt s at) a b → can a ≡ can b
+      go a b (same e) = ap can e
+      go a b (ill e i j) = rw (ill-refused (lineAt s at) a terms held i, ill-refused (lineAt s at) b terms held j)
+
+  stretched-same : (at : ℕ) (held : List Stash) (k : ℕ) → StartsAt s at →
+      canBeStretched leastBefore s at held k ≡ canBeStretched leastBlocks s at held k
+  unfolding canBeStretched
+  stretched-same at held k x = go (commandOf leastBefore (lineAt s at)) (commandOf leastBlocks (lineAt s at)) (here x)
+    where
+      can : Line → Bool
+      can a = either (eqb k 0) (freesOn held k (a .hash) (a .command))
+
+      go : (a b : Line) → SameLine (lineAt s at) a b → can a ≡ can b
+      go a b (same e) = ap can e
+      go a b (ill e i j) = rw (ill-frees held k (a .hash) (i .1), ill-frees held k (b .hash) (j .1))
+
   possible-same : (lengths : Lengths) (t : State) → isPossible leastBefore s lengths t ≡ isPossible leastBlocks s lengths t
   unfolding isPossible possibleUnder
   possible-same lengths t = ap (both (sameLengths (t .lengths) lengths)) (ap (both (eqb (startRefusal s lengths .number) none)) (under (headerOf s) refl))
     where
-      at-line : (h : Header) → headerOf s ≡ Good h → (a : Bool) → atLine s h (t .line) (t .at) ≡ a →
-          both a (both (canHold h (tableOf t)) (canBeInto leastBefore s (termsOf lengths h) (t .at) (t .into)))
-          ≡ both a (both (canHold h (tableOf t)) (canBeInto leastBlocks s (termsOf lengths h) (t .at) (t .into)))
-      at-line h r true e = ap (both (canHold h (tableOf t))) (more-same (termsOf lengths h) (t .at) (t .into) (state-starts s (t .line) (t .at) r e))
+      -- what is asked of a state at a line
+      can : ℕ → Header → Bool
+      can least h =
+          both (canHold h (tableOf t))
+          (both (canBeInto least s (termsOf lengths h) (t .at) (t .into))
+          (both (canBeReady least s (termsOf lengths h) (t .at) (held t) (t .ready))
+          (canBeStretched least s (t .at) (held t) (t .stretches))))
+
+      at-line : (h : Header) → headerOf s ≡ Good h → (a : Bool) → atLine s h (t .line) (t .at) ≡ a → both a (can leastBefore h) ≡ both a (can leastBlocks h)
+      at-line h r true e =
+          let x = state-starts s (t .line) (t .at) r e in
+          rw (
+            more-same (termsOf lengths h) (t .at) (t .into) x,
+            ready-same (termsOf lengths h) (t .at) (held t) (t .ready) x,
+            stretched-same (t .at) (held t) (t .stretches) x,
+          )
       at-line h r false e = refl
 
       under : (read : HeaderRead) → headerOf s ≡ read → possibleUnder leastBefore s lengths read t ≡ possibleUnder leastBlocks s lengths read t
@@ -311,10 +348,19 @@ module _ (s : List ℕ) (w : WithoutEmpty s) where
       go true false = tt
       go false b = k .refusal
 
+  -- a stop, or else what states that match come to
+  said-matching : (a b : Bool) (t u : State) → a ≡ b → MatchingStates t u →
+      MatchingOutcomes (pick a outcome.Stop (outcomeOf s t)) (pick b outcome.Stop (outcomeOf s u))
+  said-matching a b t u e k = rw (← e) (go a)
+    where
+      go : (a : Bool) → MatchingOutcomes (pick a outcome.Stop (outcomeOf s t)) (pick a outcome.Stop (outcomeOf s u))
+      go true = tt
+      go false = outcome-matching t u k
+
   module _ (piece : List ℕ) where
     -- from one state, which holds no refusal
     from-one : (p : Config) → eqb (p .state .refusal .number) none ≡ true → SameCall s piece p p
-    unfolding leaves takes says isRun
+    unfolding leaves takes stops says isRun
     from-one p e =
         go (isPossible leastBefore s lengths (p .state)) (isPossible leastBlocks s lengths (p .state)) refl refl (possible-same lengths (p .state))
       where
@@ -324,12 +370,12 @@ module _ (s : List ℕ) (w : WithoutEmpty s) where
         go : (a b : Bool) → isPossible leastBefore s lengths (p .state) ≡ a → isPossible leastBlocks s lengths (p .state) ≡ b →
             isPossible leastBefore s lengths (p .state) ≡ isPossible leastBlocks s lengths (p .state) → SameCall s piece p p
         go true true f g h =
-            let x = possible-starts lengths (p .state) f in
-            let k = feeds-together (termsFor s lengths) piece p p (going refl x) in
+            let k = run-same (termsFor s lengths) piece p (possible-starts lengths (p .state) f) in
             record {
-              leaves = rw (e, f, g) (matching (termsFor s lengths) k);
-              says = rw (e, f, g) (outcome-matching _ _ (matching (termsFor s lengths) k .state));
-              takes = rw (e, f, g) (counts-same (termsFor s lengths) piece p p (going refl x));
+              leaves = rw (e, f, g) (k .config);
+              says = rw (e, f, g) (said-matching _ _ _ _ (k .stop) (k .config .state));
+              takes = rw (e, f, g) (k .taken);
+              stops = rw (e, f, g) (k .stop);
             }
         go true false f g h = absurd (clash (sym h ∙ f) g)
         go false true f g h = absurd (clash (h ∙ g) f)
@@ -338,10 +384,11 @@ module _ (s : List ℕ) (w : WithoutEmpty s) where
               leaves = rw (e, f, g) (matching-config p);
               says = rw (e, f, g) (matching-refusal (refusing stateImpossible 0));
               takes = rw (e, f, g);
+              stops = rw (e, f, g);
             }
 
     pub call-same : (p q : Config) → MatchingConfigs p q → SameCall s piece p q
-    unfolding leaves takes says isRun
+    unfolding leaves takes stops says isRun
     call-same p q k = ⊎-elim
         (λ e. subst (SameCall s piece p) (config-is (k .areas) (state-is (p .state) (q .state) (k .state) (eqb-true (p .state .refusal .number) none e)))
         (from-one p e))
@@ -350,6 +397,7 @@ module _ (s : List ℕ) (w : WithoutEmpty s) where
           leaves = rw (e, f) k;
           says = rw (e, f) (outcome-matching (p .state) (q .state) (k .state));
           takes = rw (e, f);
+          stops = rw (e, f);
         })
         (bool (eqb (p .state .refusal .number) none))
       where

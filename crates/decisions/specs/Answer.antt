@@ -10,7 +10,7 @@ use Rattle.text.specs.Choice.{pick}
 use Rattle.state.specs.Refusals.{hasByte}
 use Rattle.state.specs.declared.Refusal.{Refusal}
 use Rattle.updater.specs.declared.Outcome.{Outcome}
-use Rattle.updater.specs.declared.Outcome.the-variants.{Done, More, Refused}
+use Rattle.updater.specs.declared.Outcome.the-variants.{Done, More, Stop, Refused}
 use Rattle.decisions.specs.declared.answer.Line.{Line}
 
 -- n / 10 in decimal, unless it is 0, and then n's last digit; each turn makes n smaller, so n + 1 turns are enough
@@ -29,6 +29,10 @@ doneWord = 100 ∷ 111 ∷ 110 ∷ 101 ∷ 32 ∷ []
 -- `more `
 abbrev pub moreWord : List ℕ
 moreWord = 109 ∷ 111 ∷ 114 ∷ 101 ∷ 32 ∷ []
+
+-- `stop `
+abbrev pub stopWord : List ℕ
+stopWord = 115 ∷ 116 ∷ 111 ∷ 112 ∷ 32 ∷ []
 
 -- `refused `
 abbrev pub refusedWord : List ℕ
@@ -53,10 +57,11 @@ refusalLine refusal =
     pick (hasByte (refusal .number)) (faultLine (refusal .number) (refusal .line) (refusal .byte))
     (refusedLine (refusal .number) (refusal .line))
 
--- `done T`, `more T` or a refusal
+-- `done T`, `more T` or a refusal; the program calls on at a stop, so that `stop T` is never its last word
 abbrev pub answerLine : Outcome → ℕ → List ℕ
 answerLine Done taken = numberLine doneWord taken
 answerLine More taken = numberLine moreWord taken
+answerLine Stop taken = numberLine stopWord taken
 answerLine (Refused refusal) taken = refusalLine refusal
 
 -- the most digits of a 64-bit number

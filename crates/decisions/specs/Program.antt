@@ -1,7 +1,7 @@
--- Document 01, "Calls", last paragraph, and document 02, R-4: what the program decides about its files.
+-- Document 01, "Calls", last paragraph, and document 02, R-4 and R-9: what the program decides about its files.
 -- Assumes nothing: these are definitions.
 use Prim.Native.Nat.{ℕ, _*_, _%_, min}
-use mathlib.Core.Bool.{Bool, false}
+use mathlib.Core.Bool.{Bool, true, false}
 use mathlib.Core.List.{List}
 use lib.Dec.{eqb, leb}
 use Rattle.text.specs.Choice.{pick, both, no}
@@ -13,7 +13,7 @@ use Rattle.state.specs.declared.Refusal.{Refusal}
 use Rattle.state.specs.declared.State.{State}
 use Rattle.transfer_list.specs.Opening.{lengthsOf, openState}
 use Rattle.updater.specs.declared.Outcome.{Outcome}
-use Rattle.updater.specs.declared.Outcome.the-variants.{Done, More, Refused}
+use Rattle.updater.specs.declared.Outcome.the-variants.{Done, More, Stop, Refused}
 
 -- a list of at most 4,096 bytes
 abbrev pub mostList : ℕ
@@ -57,8 +57,16 @@ sizeRefusal list image =
 abbrev pub openedWith : List ℕ → ℕ → ℕ → State
 openedWith s image patch = openState leastBlocks s (lengthsOf s image areaBytes areaBytes areaBytes patch)
 
--- after a call with a piece of n bytes there is another where the list wants more, unless the piece was the data's end
+-- after a stop the program calls on, with what is left of the piece
+abbrev pub isStop : Outcome → Bool
+isStop Stop = true
+isStop More = false
+isStop Done = false
+isStop (Refused refusal) = false
+
+-- after a call the next piece is read where the list wants more, unless the one that was read last, of n bytes, was the data's end
 abbrev pub callsOn : Outcome → ℕ → Bool
 callsOn More n = no (eqb n 0)
+callsOn Stop n = false
 callsOn Done n = false
 callsOn (Refused refusal) n = false

@@ -113,6 +113,7 @@ pub fn answer_line(outcome: Outcome, taken: u64) -> Line
     match outcome {
         Outcome::Done => number_line(b"done ", taken),
         Outcome::More => number_line(b"more ", taken),
+        Outcome::Stop => number_line(b"stop ", taken),
         Outcome::Refused(refusal) => refusal_line(refusal),
     }
 }

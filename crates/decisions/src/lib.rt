@@ -1,6 +1,6 @@
 // What is decided about the files of an update.
 ghost use mathlib.Core.Path.{_≡_};
-ghost use Rattle.decisions.specs.Program.{isImage, sizeRefusal, patchLength, openedWith, callsOn};
+ghost use Rattle.decisions.specs.Program.{isImage, sizeRefusal, patchLength, openedWith, isStop, callsOn};
 use state::Refusal;
 use state::State;
 use state::limits::BLOCK_BYTES;
@@ -75,12 +75,25 @@ pub fn open_list(list: &[u8], image: usize, patch: usize) -> State
     transfer_list::open(list, image, AREA_BYTES, AREA_BYTES, AREA_BYTES, patch)
 }
 
-// Whether the next piece is read, after a call with one of n bytes.
+// Whether the run stopped for saving, and goes on with what is left of the piece.
+pub fn is_stop(outcome: Outcome) -> bool
+    ensures { λ r. ⌜ r ≡ isStop outcome ⌝ }
+{
+    match outcome {
+        Outcome::Stop => true,
+        Outcome::More => false,
+        Outcome::Done => false,
+        Outcome::Refused(_) => false,
+    }
+}
+
+// Whether the next piece is read; the last one had n bytes.
 pub fn calls_on(outcome: Outcome, n: usize) -> bool
     ensures { λ r. ⌜ r ≡ callsOn outcome n ⌝ }
 {
     match outcome {
         Outcome::More => n != 0,
+        Outcome::Stop => false,
         Outcome::Done => false,
         Outcome::Refused(_) => false,
     }

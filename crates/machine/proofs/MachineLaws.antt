@@ -6,15 +6,15 @@ use mathlib.Core.Bool.{Bool, true, false}
 use mathlib.Core.List.{List, [], _∷_, _++_, append-nil}
 use mathlib.Core.Logic.{⊎-elim}
 use Prim.Native.Nat.{ℕ, zero, suc, _+_, _≤_, _<_}
-use native.Mathlib.Nat.{zero-add}
+use native.Mathlib.Nat.{zero-add, add-zero, add-suc, suc-add}
 use native.Mathlib.Omega.{arith}
-use lib.ListN.{length}
+use lib.ListN.{length, drop}
 use Rattle.text.specs.Choice.{pick}
 use Rattle.text.proofs.ChoiceLaws.{bool, picks}
 use Rattle.machine.specs.Machine.{Machine, run, advance, feeds, counts}
 use Rattle.machine.specs.Pieces.{joined, calls, totals}
 
-never : true ≡ false → ⊥
+pub never : true ≡ false → ⊥
 never e = let z : _≡_ {A = ℕ} 0 1 = cc in omega arith
 
 -- ---- sound machines
@@ -29,7 +29,7 @@ pub record Sound (k : Machine) (Inv : k .Config → Type 0) : Type 0 where
 module _ (k : Machine) (Inv : k .Config → Type 0) (g : Sound k Inv) where
   -- ---- a run, with fuel enough
 
-  run-waiting : (f : ℕ) (m : k .Config) → k .waits m ≡ true → run k f m ≡ m
+  pub run-waiting : (f : ℕ) (m : k .Config) → k .waits m ≡ true → run k f m ≡ m
   unfolding run
   run-waiting zero m w = refl
   run-waiting (suc f) m w = rw w
@@ -207,6 +207,38 @@ module _ (k : Machine) (Inv : k .Config → Type 0) (g : Sound k Inv) where
       (λ s. rw s (sym (zero-add (counts k ys (advance k m)) ∙ counts-stopped ys (advance k m) (advance-keeps m v) s)))
       (λ s. let h = counts-append xs ys (k .put x (advance k m)) (next-keeps x m v s) in rw s (omega arith))
       (bool (k .stopped (advance k m)))
+
+  -- ---- what each step of a call keeps, told of the bytes left, the number of those taken, and the config
+
+  module _ (R : List ℕ → ℕ → k .Config → Type 0)
+      (quiet : (xs : List ℕ) (n : ℕ) (m : k .Config) → Inv m → k .waits m ≡ false → R xs n m → R xs n (k .quiet m))
+      (put : (x : ℕ) (xs : List ℕ) (n : ℕ) (m : k .Config) → Inv m → k .waits m ≡ true → k .stopped m ≡ false → R (x ∷ xs) n m
+      → R xs (suc n) (k .put x m)) where
+    run-follows : (f : ℕ) (xs : List ℕ) (n : ℕ) (m : k .Config) → Inv m → R xs n m → R xs n (run k f m)
+    unfolding run
+    run-follows zero xs n m v r = r
+    run-follows (suc f) xs n m v r =
+        picks (R xs n) (k .waits m) m (run k f (k .quiet m))
+        (λ w. r)
+        (λ w. run-follows f xs n (k .quiet m) (g .quiet-keeps m v w) (quiet xs n m v w r))
+
+    advance-follows : (xs : List ℕ) (n : ℕ) (m : k .Config) → Inv m → R xs n m → R xs n (advance k m)
+    unfolding advance
+    advance-follows xs n m v r = run-follows (k .fuel m) xs n m v r
+
+    pub feeds-follows : (xs : List ℕ) (n : ℕ) (m : k .Config) → Inv m → R xs n m
+        → R (drop (counts k xs m) xs) (n + counts k xs m) (feeds k xs m)
+    unfolding feeds counts
+    feeds-follows [] n m v r = rw add-zero (advance-follows [] n m v r)
+    feeds-follows (x ∷ xs) n m v r =
+        let a = advance-follows (x ∷ xs) n m v r in
+        ⊎-elim
+        (λ s. rw s (rw add-zero a))
+        (λ s.
+        let kept = next-keeps x m v s in
+        let later = feeds-follows xs (suc n) (k .put x (advance k m)) kept (put x xs n (advance k m) (advance-keeps m v) (advance-waits m v) s a) in
+        rw s (rw (add-suc, ← suc-add) later))
+        (bool (k .stopped (advance k m)))
 
   -- ---- one call or more end as one call over all the bytes does, and take as many
 

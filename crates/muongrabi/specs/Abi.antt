@@ -4,4 +4,4 @@ use Prim.Native.Nat.{ℕ}
 
 -- another one whenever the layout of a struct or the parameters of an exported function change
 abbrev pub abi : ℕ
-abi = 4
+abi = 5

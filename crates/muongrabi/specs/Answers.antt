@@ -1,4 +1,4 @@
--- What the exported functions answer: document 01's outcomes as numbers.
+-- What the exported functions answer: the outcomes of documents 01 and 02 as numbers.
 -- Assumes nothing: these are definitions.
 use Prim.Native.Nat.{ℕ}
 use mathlib.Core.List.{List}
@@ -8,31 +8,35 @@ use Rattle.state.specs.declared.State.{State}
 use Rattle.updater.specs.Areas.{Areas}
 use Rattle.updater.specs.Calls.{Result}
 use Rattle.updater.specs.declared.Outcome.{Outcome}
-use Rattle.updater.specs.declared.Outcome.the-variants.{Done, More, Refused}
+use Rattle.updater.specs.declared.Outcome.the-variants.{Done, More, Stop, Refused}
 use Rattle.muongrabi.specs.declared.Answer.{Answer}
 
--- done is 0, more is 1, refused is 2
+-- done is 0, more is 1, refused is 2, a stop is 3
 abbrev pub outcomeNumber : Outcome → ℕ
 outcomeNumber Done = 0
 outcomeNumber More = 1
+outcomeNumber Stop = 3
 outcomeNumber (Refused refusal) = 2
 
 -- the refusal's number; 0 where nothing is refused
 abbrev pub refusalNumber : Outcome → ℕ
 refusalNumber Done = 0
 refusalNumber More = 0
+refusalNumber Stop = 0
 refusalNumber (Refused refusal) = refusal .number
 
 -- the refusal's line; 0 where nothing is refused
 abbrev pub refusalLine : Outcome → ℕ
 refusalLine Done = 0
 refusalLine More = 0
+refusalLine Stop = 0
 refusalLine (Refused refusal) = refusal .line
 
 -- the byte that is reported of it; 0 where nothing is refused
 abbrev pub refusalByte : Outcome → ℕ
 refusalByte Done = 0
 refusalByte More = 0
+refusalByte Stop = 0
 refusalByte (Refused refusal) = refusal .byte
 
 abbrev pub answerOf : Progress → Outcome → ℕ → Answer

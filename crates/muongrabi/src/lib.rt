@@ -8,10 +8,14 @@ ghost use Rattle.transfer_list.specs.Opening.{lengthsOf, openState};
 ghost use Rattle.updater.specs.Areas.{areasOf};
 ghost use Rattle.updater.specs.Calls.{callOf};
 ghost use Rattle.updater.specs.Steps.{configOf};
-ghost use Rattle.sequence.specs.Cuts.{runCuts};
+ghost use Rattle.sequence.specs.Cuts.{runAll};
+ghost use Rattle.saved.specs.Restored.{restoredOf};
+ghost use Rattle.saved.specs.Saved.{savedOf};
 ghost use Rattle.sparse.specs.Loading.{loadRefusal, loadedImage};
 ghost use Rattle.muongrabi.specs.Answers.{answerOf, answeredOf, answered};
 ghost use Rattle.muongrabi.specs.Abi.{abi};
+use saved::Restored;
+use saved::SAVED_BYTES;
 use sequence::run_pieces;
 use state::Progress;
 use state::State;
@@ -20,9 +24,10 @@ use state::limits::TABLE_BYTES;
 use updater::Outcome;
 use updater::call_in_place;
 
-const ABI: usize = 4;
+const ABI: usize = 5;
 
-// What a call answers besides the tables of the stashes. An outcome is a number: 0 done, 1 more, 2 refused with a number, a line and a byte.
+// What a call answers besides the tables of the stashes. An outcome is a number: 0 done, 1 more, 2 refused with a number, a line and a byte,
+// 3 stopped for saving.
 #[repr(C)]
 pub struct Answer {
     pub progress: Progress,
@@ -53,6 +58,14 @@ fn to_answer(progress: Progress, outcome: Outcome, taken: usize) -> Answer
             byte: 0,
             taken,
         },
+        Outcome::Stop => Answer {
+            progress,
+            outcome: 3,
+            number: 0,
+            line: 0,
+            byte: 0,
+            taken,
+        },
         Outcome::Refused(refusal) => Answer {
             progress,
             outcome: 2,
@@ -66,7 +79,7 @@ fn to_answer(progress: Progress, outcome: Outcome, taken: usize) -> Answer
 
 // The ABI's number. The name has it too, so that what was built for another one does not link.
 #[no_mangle]
-pub extern "C" fn muongrabi_abi_4() -> usize
+pub extern "C" fn muongrabi_abi_5() -> usize
     ensures { λ r. ⌜ r ≡ abi ⌝ }
 {
     ABI
@@ -129,8 +142,8 @@ pub extern "C" fn muongrabi_call(
     to_answer(last, outcome, called.taken)
 }
 
-// Opens the list and makes the calls: a piece of each given length, cut short where the bytes end, and then one with what is left. The
-// tables are those of the state after the last call, whatever they held.
+// Opens the list and makes the calls: a piece of each given length, cut short where the bytes end, and then one with what is left; after a stop
+// it calls on. The tables are those of the state after the last call, whatever they held.
 #[no_mangle]
 pub extern "C" fn muongrabi_run(
     list: &[u8],
@@ -144,7 +157,7 @@ pub extern "C" fn muongrabi_run(
     hashes: &mut [u8; TABLE_BYTES],
     sizes: &mut [usize; MOST_STASHES],
 ) -> Answer
-    ensures { λ r. ⌜ answeredOf (areasOf (now (image .exit)) (now (stash .exit)) (now (work .exit)) (now (result .exit)) (now (patch .entry))) (now (hashes .exit)) (now (sizes .exit)) r ≡ answered (runCuts (now (list .entry)) (areasOf (now (image .entry)) (now (stash .entry)) (now (work .entry)) (now (result .entry)) (now (patch .entry))) (now (bytes .entry)) (now (cuts .entry))) ⌝ }
+    ensures { λ r. ⌜ answeredOf (areasOf (now (image .exit)) (now (stash .exit)) (now (work .exit)) (now (result .exit)) (now (patch .entry))) (now (hashes .exit)) (now (sizes .exit)) r ≡ answered (runAll (now (list .entry)) (areasOf (now (image .entry)) (now (stash .entry)) (now (work .entry)) (now (result .entry)) (now (patch .entry))) (now (bytes .entry))) ⌝ }
 {
     let called = run_pieces(list, image, stash, work, result, patch, bytes, cuts);
     let state = called.state;
@@ -161,12 +174,36 @@ pub extern "C" fn muongrabi_run(
             line: state.line,
             at: state.at,
             into: state.into,
+            total: state.total,
+            ready: state.ready,
+            stretches: state.stretches,
             refusal,
             lengths,
         },
         outcome,
         called.taken,
     )
+}
+
+// The saved form of a state.
+#[no_mangle]
+pub extern "C" fn muongrabi_save<'a>(
+    hashes: &'a [u8; TABLE_BYTES],
+    sizes: &'a [usize; MOST_STASHES],
+    progress: Progress,
+    out: &mut [u8; SAVED_BYTES],
+)
+    ensures { λ _. ⌜ now (out .exit) ≡ savedOf (stateWith (now (hashes .entry)) (now (sizes .entry)) progress) ⌝ }
+{
+    *out = saved::save(hashes, sizes, progress);
+}
+
+// The state whose saved form the bytes are, with number 0; or 20, with no state.
+#[no_mangle]
+pub extern "C" fn muongrabi_restore(bytes: &[u8]) -> Restored
+    ensures { λ r. ⌜ r ≡ restoredOf (now (bytes .entry)) ⌝ }
+{
+    saved::restore(bytes)
 }
 
 // Reads a sparse file over an image, and gives the number of the refusal, 0 for none.

@@ -19,12 +19,14 @@ use decisions::LIST_BYTES;
 use decisions::PATCH_BYTES;
 use decisions::answer::answer_line;
 use decisions::calls_on;
+use decisions::is_stop;
 use decisions::open_list;
 use decisions::patch_length;
 use decisions::size_refusal;
 use libc::STDOUT_FILENO;
 use state::Refusal;
 use state::State;
+use updater::Called;
 use updater::Outcome;
 use updater::call;
 
@@ -59,7 +61,44 @@ fn say(outcome: Outcome, taken: u64) {
     io::write_all(STDOUT_FILENO, &bytes[..n]);
 }
 
-// One call for each piece; the first piece is read already. The turns are counted, since nothing says that a file ends.
+// Calls with a piece, and after each stop with what is left of it. The calls are counted: that stops come to an end is no contract of one call.
+fn call_on(
+    list: &[u8],
+    image: &mut [u8],
+    stash: &mut [u8],
+    work: &mut [u8],
+    result: &mut [u8],
+    patch: &[u8],
+    piece: &[u8],
+    state: State,
+) -> Called
+    ensures { λ r. ⌜ r .taken ≤ length (now (piece .entry)) ⌝ }
+{
+    let mut s = state;
+    let mut at = 0;
+    let mut turns: u64 = 1 << 40;
+    while 0 < turns {
+        let called = call(list, image, stash, work, result, patch, &piece[at..], s);
+        s = called.state;
+        at += called.taken;
+        let outcome = called.outcome;
+        if !is_stop(outcome) {
+            return Called {
+                state: s,
+                outcome,
+                taken: at,
+            };
+        }
+        turns -= 1;
+    }
+    Called {
+        state: s,
+        outcome: Outcome::More,
+        taken: at,
+    }
+}
+
+// One piece after the other; the first is read already. The turns are counted, since nothing says that a file ends.
 fn run(
     list: &[u8],
     image: &mut [u8],
@@ -80,7 +119,7 @@ fn run(
     let mut taken: u64 = 0;
     let mut turns: u64 = 1 << 40;
     while 0 < turns {
-        let called = call(
+        let called = call_on(
             list,
             image,
             &mut stash,

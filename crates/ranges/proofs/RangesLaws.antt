@@ -1,12 +1,13 @@
--- What a good pair, good pairs and a good range set are made of; where they end, and that a pair's start is not past its end. `least` is how many
--- blocks a range has at least; what is good is good for fewer too.
+-- What a good pair, good pairs and a good range set are made of; where they end, that a pair's start is not past its end, and how many blocks
+-- a set has at least. `least` is how many blocks a range has at least; what is good is good for fewer too.
 -- Assumes nothing.
 use mathlib.Core.Path.{_≡_, refl, sym, _∙_}
 use mathlib.Core.Bool.{Bool, true, false}
-use Prim.Native.Nat.{ℕ, zero, suc, _+_, _-_, _/_, _≤_, _<_}
+use Prim.Native.Nat.{ℕ, zero, suc, _+_, _-_, _/_, _%_, _≤_, _<_}
 use native.Mathlib.Omega.{arith}
 use mathlib.Core.List.{List, _∷_}
 use lib.ListN.{length}
+use lib.Dec.{eqb, leb}
 use borrow.Author.Tests.{leb-true, le-leb}
 use Rattle.text.specs.Choice.{pick}
 use Rattle.text.specs.Expected.{comma, stands}
@@ -21,6 +22,7 @@ use Rattle.ranges.specs.declared.RangeSet.{RangeSet}
 use Rattle.ranges.specs.declared.Ranges.{Ranges}
 use Rattle.ranges.specs.declared.Ranges.the-variants as ranges
 use Rattle.ranges.specs.Ranges.{Range, itemAt, pairAt, onPair, Parsed, ok, fault, follow, pairsAt, setAt, sizeOf, endOf, summary, rangesAt, onRanges}
+use Rattle.text.proofs.ChoiceLaws.{both-true}
 use Rattle.text.proofs.NumberLaws.{number-next, number-most, number-meets, number-any}
 use Rattle.text.proofs.NeedLaws.{number-met}
 
@@ -139,6 +141,14 @@ pairs-next least (suc n) s at h e =
     let k = pairs-next least n s (p .middle) (l .1) (p .then) in
     (omega arith, k .1)
 
+-- pairs, of which there is one, have at least its blocks
+pairs-some : (least n : ℕ) (s : List ℕ) (at : ℕ) {rs : List Range} {next : ℕ} → 0 < n → pairsAt least n s at ≡ ok rs next → least ≤ sizeOf rs
+unfolding sizeOf
+pairs-some least zero s at h e = absurd (omega arith)
+pairs-some least (suc n) s at h e =
+    let p = pairs-good least n s at e in
+    rw (p .whole) (omega (arith, pair-apart least s at (p .first)))
+
 -- a good set is a good count and half as many good pairs
 pub record Counted (least : ℕ) (s : List ℕ) (at : ℕ) (rs : List Range) (next : ℕ) : Type 0 where
   pub count : ℕ
@@ -184,6 +194,14 @@ module _ (least : ℕ) (s : List ℕ) (at : ℕ) {set : RangeSet} {next : ℕ} (
       let h = number-next s at (c .number) in
       let l = pairs-next least (c .count / 2) s (c .from) (h .1) (c .pairs) in
       (omega arith, l .1)
+
+  -- a set has at least one range, so at least a range's blocks
+  pub ranges-some : least ≤ set .blocks
+  ranges-some =
+      let c = set-good least s at (ranges-good .text) in
+      let n = leb-true 2 (c .count) (both-true (eqb (c .count % 2) 0) (leb 2 (c .count)) (c .even) .1) in
+      let h = pairs-some least (c .count / 2) s (c .from) (omega arith) (c .pairs) in
+      omega (arith, ranges-good .blocks)
 
 -- ---- what follows a range set: by cases, and where m was read, which is x
 pub on-ranges : {A : Type 0} (P : A → Type 0) (x : Ranges) (good : RangeSet → ℕ → A) (bad : ℕ → A) →

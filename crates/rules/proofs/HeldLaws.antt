@@ -1,23 +1,26 @@
 -- What is held after a command that is not refused: the table holds what the rules say, stays whole, holds no more blocks than line 4, and
--- no hash twice.
+-- no hash twice. And after any line: no stash of no blocks.
 -- Assumes nothing.
 use mathlib.Core.Path.{_≡_, refl}
 use mathlib.Core.Bool.{false}
 use mathlib.Core.List.{List, [], _∷_}
-use Prim.Native.Nat.{ℕ, _≤_}
+use Prim.Native.Nat.{ℕ, _≤_, _<_}
 use native.Mathlib.Omega.{arith}
 use lib.ListN.{length}
 use Rattle.text.specs.Hash.{hashBytes}
+use Rattle.ranges.specs.Ranges.{leastBlocks}
+use Rattle.ranges.specs.declared.RangeSet.{RangeSet}
 use Rattle.state.specs.Limits.{mostStashes}
 use Rattle.state.specs.Refusals.{none}
-use Rattle.state.specs.Stashes.{Stash, Table, Whole, heldIn, findIn, heldTwice, blocksHeld}
+use Rattle.state.specs.Stashes.{Stash, Table, Whole, heldIn, findIn, heldTwice, holdsEmpty, blocksHeld}
 use Rattle.state.specs.declared.stashes.Found.{Found}
 use Rattle.state.specs.declared.stashes.Found.the-variants.{At, Nothing}
-use Rattle.state.proofs.StashLaws.{blocks-held-append, blocks-held-without, twice-append, twice-without}
+use Rattle.state.proofs.StashLaws.{blocks-held-append, blocks-held-without, twice-append, twice-without, holds-empty-more, holds-empty-without}
 use Rattle.state.proofs.TableLaws.{whole-held, hold-held, hold-whole, release-held, release-whole}
+use Rattle.command.specs.Commands.{commandOf}
 use Rattle.command.specs.declared.Command.{Command}
 use Rattle.command.specs.declared.Command.the-variants as command
-use Rattle.command.proofs.CommandLaws.{GoodCommand}
+use Rattle.command.proofs.CommandLaws.{GoodCommand, stash-some}
 use Rattle.rules.specs.Held.{dropFound, heldAfter, releaseFound, tableAfter}
 use Rattle.rules.specs.Rules.{refusalFor}
 use Rattle.rules.specs.declared.Terms.{Terms}
@@ -113,3 +116,24 @@ module _ (l : List ℕ) (terms : Terms) (stashes : List Stash) (hash : List ℕ)
       go Nothing = h
   after-once command.Unsupported e h = h
   after-once (command.Bad p) e h = h
+
+-- no stash of no blocks, as the set of a `stash` has some (R-7)
+module _ (stashes : List Stash) (hash : List ℕ) (h : holdsEmpty stashes ≡ false) where
+  command-keeps : (c : Command) → ((set : RangeSet) → c ≡ command.Stash set → 0 < set .blocks) → holdsEmpty (heldAfter stashes hash c) ≡ false
+  unfolding heldAfter
+  command-keeps (command.Zero set) some = h
+  command-keeps (command.Erase set) some = h
+  command-keeps (command.New set) some = h
+  command-keeps (command.Move target n source) some = h
+  command-keeps (command.Bsdiff target n source) some = h
+  command-keeps (command.Stash set) some = holds-empty-more stashes hash (set .blocks) h (some set refl)
+  command-keeps command.Free some = go (findIn stashes hash)
+    where
+      go : (f : Found) → holdsEmpty (dropFound stashes f) ≡ false
+      go (At j) = holds-empty-without stashes j h
+      go Nothing = h
+  command-keeps command.Unsupported some = h
+  command-keeps (command.Bad p) some = h
+
+  pub after-none-empty : (l : List ℕ) → holdsEmpty (heldAfter stashes hash (commandOf leastBlocks l .command)) ≡ false
+  after-none-empty l = command-keeps (commandOf leastBlocks l .command) (λ set e. stash-some l e)

@@ -3,3 +3,4 @@ pub mod PlaceLaws
 pub mod RuleLaws
 pub mod HeldLaws
 pub mod FormLaws
+pub mod CoverLaws

@@ -1,155 +1,390 @@
--- Pieces that are cut from the data join to it; the calls over them, one after another, come to `runCuts`, and that to what the model gives.
+-- The loops that call: one calls on until a call does not stop, which ends since each stop has cost a step; one goes over the pieces that are cut from
+-- the data. Together they come to `runAll`, and that to what the model gives.
 -- Assumes nothing.
-use mathlib.Core.Path.{_≡_, refl, sym, ap, _∙_}
-use mathlib.Core.List.{List, [], _∷_, append-nil}
-use Prim.Native.Nat.{ℕ, zero, suc, _+_, _-_, _≤_, _<_, min}
-use native.Mathlib.Numerals.{add-one}
+use mathlib.Core.Path.{_≡_, refl, sym, ap, subst, _∙_}
+use mathlib.Core.Bool.{Bool, true, false}
+use mathlib.Core.List.{List, [], _∷_, _++_, append-nil}
+use Prim.Native.Nat.{ℕ, zero, suc, _+_, _-_, _^_, _≤_, _<_}
+use native.Mathlib.Nat.{zero-add}
 use native.Mathlib.Omega.{arith}
 use borrow.Author.Tests.{ne-eqb}
-use lib.ListN.{length, take, drop, getD, length-take, length-drop, take-append-drop, drop-of-length-le}
-use lib.Seq.{take-all, take-nil, drop-nil, drop-drop, drop-cons}
+use lib.Dec.{eqb}
+use lib.ListN.{length, take, drop, replicate, length-take, length-drop, take-append-drop}
+use lib.Seq.{take-all, drop-drop}
+use Rattle.text.specs.Choice.{pick, both}
+use Rattle.text.proofs.ChoiceLaws.{both-true}
 use Rattle.ranges.specs.Ranges.{leastBlocks}
-use Rattle.state.specs.Refusals.{none}
+use Rattle.state.specs.Refusals.{none, stateImpossible}
+use Rattle.state.specs.Stashes.{Whole, tableOf}
+use Rattle.state.specs.States.{refusing}
 use Rattle.state.specs.declared.Lengths.{Lengths}
 use Rattle.state.specs.declared.State.{State}
-use Rattle.transfer_list.specs.Opening.{openRefusal, openState, acceptedState, refusedState}
+use Rattle.rules.specs.declared.Terms.{Terms}
+use Rattle.transfer_list.specs.Opening.{termsOf, openRefusal, openState, acceptedState, refusedState}
+use Rattle.transfer_list.specs.declared.header.Header.{Header}
+use Rattle.possible.specs.Possible.{isPossible, termsFor}
+use Rattle.machine.specs.Machine.{Machine, feeds, counts}
 use Rattle.machine.specs.Pieces.{joined}
+use Rattle.machine.specs.Stops.{start}
+use Rattle.machine.proofs.MachineLaws.{feeds-append, counts-append, counts-most}
+use Rattle.machine.proofs.StopLaws.{call-keeps, call-burns}
 use Rattle.updater.specs.Areas.{Areas}
+use Rattle.updater.specs.Fits.{Fits}
 use Rattle.updater.specs.Steps.{Config, configOf}
-use Rattle.updater.specs.Calls.{lengthsAt, leaves, takes, says, Result, resultOf, callOf}
+use Rattle.updater.specs.Run.{stepsLeft, haltsAt, machine, runOf}
+use Rattle.updater.specs.Calls.{outcomeOf, lengthsAt, isRun, leaves, takes, stops, says, Result, resultOf, callOf}
 use Rattle.updater.specs.declared.Called.{Called}
 use Rattle.updater.specs.declared.Outcome.{Outcome}
 use Rattle.updater.specs.declared.Outcome.the-variants as outcome
-use Rattle.sequence.specs.Model.{model}
-use Rattle.sequence.specs.Sequence.{leavesAll, takesAll, lastSays}
-use Rattle.sequence.specs.Claim.{openedConfig, Accepted, Agrees}
-use Rattle.sequence.specs.Cuts.{firstPiece, laterPieces, callsOver, runCuts, RunMeets, CutClaim}
-use Rattle.updater.proofs.CallLaws.{call-leaves, call-takes, call-says, call-most}
-use Rattle.sequence.proofs.ClaimLaws.{claim}
+use Rattle.updater.proofs.FitLaws.{fits-sound, put-burns-none}
+use Rattle.updater.proofs.CallLaws.{possible-fits, call-leaves, call-takes, call-says, call-most}
+use Rattle.sequence.specs.Model.{Model, model, modelOutcome}
+use Rattle.sequence.specs.Sequence.{CallsMade, noCalls, pieceOf, nextCall, allCalls, lastSays}
+use Rattle.sequence.specs.Claim.{openedConfig, Accepted, Ended}
+use Rattle.sequence.specs.Cuts.{CallsOn, pastStops, runAll, RunAgrees, RunMeets, RunClaim}
+use Rattle.sequence.proofs.Running.{Running}
+use Rattle.sequence.proofs.RunningLaws.{running-sound}
+use Rattle.sequence.proofs.PossibleLaws.{running-terms}
+use Rattle.sequence.proofs.SequenceLaws.{outcome-no-stop, Callable, all-sent, all-callable, ended-feeds, ended-counts, ended-says}
+use Rattle.sequence.proofs.ClaimLaws.{claim, header, starts-callable, model-feeds, feeds-holds}
 
--- ---- pieces
+-- ---- a call that stops
 
-pub joined-cuts : (bytes cuts : List ℕ) → joined (firstPiece bytes cuts ∷ laterPieces bytes cuts) ≡ bytes
-unfolding joined firstPiece laterPieces
-joined-cuts bytes [] = append-nil bytes
-joined-cuts bytes (n ∷ ns) = rw (joined-cuts (drop n bytes) ns, take-append-drop n bytes)
+-- the steps that are left at the most: no more calls can stop
+abbrev pub stopsLeft : List ℕ → Config → ℕ
+stopsLeft s p = pick (eqb (p .state .refusal .number) none) (stepsLeft s p) 0
 
--- a piece that would go past the end of the data is cut short there
-cut-short : (xs : List ℕ) (n m : ℕ) → m ≡ min n (length xs) → (take m xs ≡ take n xs) × (drop n xs ≡ drop m xs)
-cut-short [] n m e = (take-nil m ∙ sym (take-nil n), drop-nil n ∙ sym (drop-nil m))
-cut-short (x ∷ xs) zero zero e = (refl, refl)
-cut-short (x ∷ xs) zero (suc m) e = absurd (omega arith)
-cut-short (x ∷ xs) (suc n) zero e = absurd (omega arith)
-cut-short (x ∷ xs) (suc n) (suc m) e = let h = cut-short xs n m (omega arith) in (ap (λ (l : List ℕ). x ∷ l) (h .0), h .1)
+module _ (s q : List ℕ) (p : Config) where
+  -- it was a run
+  says-stop : says leastBlocks s q p ≡ outcome.Stop → (isRun leastBlocks s p ≡ true) × (stops leastBlocks s q p ≡ true)
+  unfolding says isRun
+  says-stop e =
+      go (eqb (p .state .refusal .number) none) (isPossible leastBlocks s (lengthsAt s (p .areas)) (p .state)) (stops leastBlocks s q p) e
+    where
+      go : (a b c : Bool) →
+          pick a
+          (pick b (pick c outcome.Stop (outcomeOf s (leaves leastBlocks s q p .state))) (outcome.Refused (refusing stateImpossible 0)))
+          (outcomeOf s (p .state))
+          ≡ outcome.Stop →
+          (both a b ≡ true) × (c ≡ true)
+      go true true true e = (refl, refl)
+      go true true false e = absurd (outcome-no-stop s (leaves leastBlocks s q p .state) e)
+      go true false c e = absurd (let z : _≡_ {A = ℕ} 0 1 = cc in omega arith)
+      go false b c e = absurd (outcome-no-stop s (p .state) e)
 
--- the piece from `from` to its end, and what is left after it
-module _ (bytes : List ℕ) (from n end : ℕ) (e : end ≡ from + min n (length bytes - from)) where
-  piece-short : (take (end - from) (drop from bytes) ≡ take n (drop from bytes)) × (drop n (drop from bytes) ≡ drop end bytes)
-  piece-short =
-      let l = length-drop from bytes in
-      let h = cut-short (drop from bytes) n (end - from) (omega arith) in
-      let f : from + (end - from) ≡ end = omega arith in
-      (h .0, h .1 ∙ drop-drop (end - from) from bytes ∙ ap (λ (i : ℕ). drop i bytes) f)
+  -- where the tables have their lengths, and the total is a word
+  module _ (whole : Whole (tableOf (p .state))) (total : p .state .total < 2 ^ 64) (e : says leastBlocks s q p ≡ outcome.Stop) where
+    abbrev terms : Terms
+    terms = termsFor s (lengthsAt s (p .areas))
 
--- ---- the calls over all pieces: what they leave, take, and say at last
+    stop-fits : Fits s terms p
+    unfolding isRun
+    stop-fits =
+        possible-fits s p
+        (both-true (eqb (p .state .refusal .number) none) (isPossible leastBlocks s (lengthsAt s (p .areas)) (p .state)) (says-stop e .0) .1)
+        (whole .hashes) (whole .sizes) total
 
-abbrev leavesCut : List ℕ → List ℕ → List ℕ → Config → Config
-leavesCut s xs cs p = leavesAll leastBlocks s (firstPiece xs cs ∷ laterPieces xs cs) p
+    -- .. it has cost a step
+    stop-burns : stopsLeft s (leaves leastBlocks s q p) < stopsLeft s p
+    unfolding leaves stops runOf
+    stop-burns =
+        let x = says-stop e in
+        rw (x .0)
+        (call-burns (machine leastBlocks s terms) (haltsAt leastBlocks s terms) (Fits s terms) (fits-sound s terms)
+        (λ m y v w t. put-burns-none s terms m y) q p stop-fits .less (rw (x .0) at (x .1)))
 
-abbrev takesCut : List ℕ → List ℕ → List ℕ → Config → ℕ
-takesCut s xs cs p = takesAll leastBlocks s (firstPiece xs cs ∷ laterPieces xs cs) p
+    -- .. and they are so after it
+    stop-keeps : Whole (tableOf (leaves leastBlocks s q p .state)) × (leaves leastBlocks s q p .state .total < 2 ^ 64)
+    unfolding leaves runOf
+    stop-keeps =
+        let f = call-keeps (machine leastBlocks s terms) (haltsAt leastBlocks s terms) (Fits s terms) (fits-sound s terms) q p stop-fits in
+        rw (says-stop e .0) (f .whole, f .total)
 
-abbrev saysCut : List ℕ → List ℕ → List ℕ → Config → Outcome
-saysCut s xs cs p = lastSays leastBlocks s (firstPiece xs cs) (laterPieces xs cs) p
+-- ---- the loop that calls on
 
--- after the first call the others are left
-module _ (s xs ns : List ℕ) (n : ℕ) (p : Config) where
-  leaves-first : leavesCut s xs (n ∷ ns) p ≡ leavesCut s (drop n xs) ns (leaves leastBlocks s (take n xs) p)
-  unfolding leavesAll firstPiece laterPieces
-  leaves-first = refl
+-- before a call with no fresh bytes, p and the bytes that are handed on
+abbrev handedOn : Config → List ℕ → ℕ → CallsMade
+handedOn p rest taken = record { config = p; rest = rest; taken = taken }
 
-  takes-first : takesCut s xs (n ∷ ns) p ≡ takes leastBlocks s (take n xs) p + takesCut s (drop n xs) ns (leaves leastBlocks s (take n xs) p)
-  unfolding takesAll firstPiece laterPieces
-  takes-first = refl
+calls-last : (s : List ℕ) (n : ℕ) (c : CallsMade) → allCalls leastBlocks s (replicate (suc n) []) c ≡ nextCall leastBlocks s [] (allCalls leastBlocks s (replicate n []) c)
+unfolding allCalls
+calls-last s zero c = refl
+calls-last s (suc n) c = calls-last s n (nextCall leastBlocks s [] c)
 
-  says-first : saysCut s xs (n ∷ ns) p ≡ saysCut s (drop n xs) ns (leaves leastBlocks s (take n xs) p)
-  unfolding lastSays firstPiece laterPieces
-  says-first = refl
+says-last : (s : List ℕ) (n : ℕ) (c : CallsMade) →
+    lastSays leastBlocks s [] (replicate n []) c
+    ≡ says leastBlocks s (pieceOf (allCalls leastBlocks s (replicate n []) c) []) (allCalls leastBlocks s (replicate n []) c .config)
+unfolding allCalls lastSays
+says-last s zero c = refl
+says-last s (suc n) c = says-last s n (nextCall leastBlocks s [] c)
 
--- where no cut is left the last call takes what is left
-module _ (s xs : List ℕ) (p : Config) where
-  leaves-last : leavesCut s xs [] p ≡ leaves leastBlocks s xs p
-  unfolding leavesAll firstPiece laterPieces
-  leaves-last = refl
+-- the first piece may as well be handed on
+module _ (s piece : List ℕ) (p : Config) where
+  first-next : nextCall leastBlocks s piece (noCalls p) ≡ nextCall leastBlocks s [] (handedOn p piece 0)
+  first-next = rw append-nil
 
-  takes-last : takesCut s xs [] p ≡ takes leastBlocks s xs p
-  unfolding takesAll firstPiece laterPieces
-  takes-last = omega arith
+  first-calls : (n : ℕ) → allCalls leastBlocks s (piece ∷ replicate n []) (noCalls p) ≡ allCalls leastBlocks s (replicate (suc n) []) (handedOn p piece 0)
+  unfolding allCalls
+  first-calls n = ap (allCalls leastBlocks s (replicate n [])) first-next
 
-  says-last : saysCut s xs [] p ≡ says leastBlocks s xs p
-  unfolding lastSays firstPiece laterPieces
-  says-last = refl
+  first-says : (n : ℕ) → lastSays leastBlocks s piece (replicate n []) (noCalls p) ≡ lastSays leastBlocks s [] (replicate n []) (handedOn p piece 0)
+  unfolding lastSays
+  first-says zero = rw append-nil
+  first-says (suc n) = ap (lastSays leastBlocks s [] (replicate n [])) first-next
+
+-- after some calls that all stopped, p stands and `at` bytes of the piece are taken
+pub record CallingOn (s piece : List ℕ) (p₀ p : Config) (at : ℕ) : Type 0 where
+  pub stopped : ℕ
+  pub made : allCalls leastBlocks s (replicate stopped []) (handedOn p₀ piece 0) ≡ handedOn p (drop at piece) at
+  pub within : at ≤ length piece
+  pub whole : Whole (tableOf (p .state))
+  pub total : p .state .total < 2 ^ 64
+
+module _ (s piece : List ℕ) where
+  pub calling-start : (p : Config) → Whole (tableOf (p .state)) → p .state .total < 2 ^ 64 → CallingOn s piece p p 0
+  unfolding allCalls
+  calling-start p w t = record { stopped = 0; made = refl; within = omega arith; whole = w; total = t }
+
+  module _ {p₀ p : Config} {at : ℕ} (v : CallingOn s piece p₀ p at) {areas : Areas} {called : Called}
+      (r : resultOf areas called ≡ callOf leastBlocks s (take (length piece - at) (drop at piece)) p) where
+    all-left : take (length piece - at) (drop at piece) ≡ drop at piece
+    all-left = let l = length-drop at piece in take-all (length piece - at) (drop at piece) (omega arith)
+
+    -- the bytes taken stay within the piece
+    pub calling-within : at + called .taken ≤ length piece
+    calling-within =
+        let a = call-most s (take (length piece - at) (drop at piece)) p r in
+        let l = ap length all-left ∙ length-drop at piece in
+        let w = v .within in
+        omega arith
+
+    abbrev next : CallsMade
+    next = nextCall leastBlocks s [] (handedOn p (drop at piece) at)
+
+    next-made : allCalls leastBlocks s (replicate (suc (v .stopped)) []) (handedOn p₀ piece 0) ≡ next
+    next-made = calls-last s (v .stopped) (handedOn p₀ piece 0) ∙ ap (nextCall leastBlocks s []) (v .made)
+
+    piece-here : take (length piece - at) (drop at piece) ≡ drop at piece ++ []
+    piece-here = all-left ∙ sym (append-nil (drop at piece))
+
+    next-config : configOf areas (called .state) ≡ next .config
+    next-config = call-leaves s (take (length piece - at) (drop at piece)) p r ∙ ap (λ (l : List ℕ). leaves leastBlocks s l p) piece-here
+
+    next-taken : at + called .taken ≡ next .taken
+    next-taken =
+        ap (λ (n : ℕ). at + n)
+        (call-takes s (take (length piece - at) (drop at piece)) p r ∙ ap (λ (l : List ℕ). takes leastBlocks s l p) piece-here)
+
+    next-says : called .outcome ≡ says leastBlocks s (drop at piece ++ []) p
+    next-says = call-says s (take (length piece - at) (drop at piece)) p r ∙ ap (λ (l : List ℕ). says leastBlocks s l p) piece-here
+
+    -- the call stopped
+    module _ (e : called .outcome ≡ outcome.Stop) where
+      pub calling-burns : stopsLeft s (configOf areas (called .state)) < stopsLeft s p
+      calling-burns = rw next-config (stop-burns s (drop at piece ++ []) p (v .whole) (v .total) (sym next-says ∙ e))
+
+      next-rest : next .rest ≡ drop (at + called .taken) piece
+      next-rest =
+          let stopped = says-stop s (drop at piece ++ []) p (sym next-says ∙ e) .1 in
+          rw stopped
+          (ap (λ (l : List ℕ). drop (takes leastBlocks s (drop at piece ++ []) p) l) (append-nil (drop at piece))
+          ∙ drop-drop (takes leastBlocks s (drop at piece ++ []) p) at piece
+          ∙ ap (λ (n : ℕ). drop n piece) (sym next-taken))
+
+      pub calling-more : CallingOn s piece p₀ (configOf areas (called .state)) (at + called .taken)
+      calling-more =
+          let kept : Whole (tableOf (called .state)) × (called .state .total < 2 ^ 64) =
+          subst (λ (m : Config). Whole (tableOf (m .state)) × (m .state .total < 2 ^ 64)) (sym next-config)
+          (stop-keeps s (drop at piece ++ []) p (v .whole) (v .total) (sym next-says ∙ e)) in
+          record {
+            stopped = suc (v .stopped);
+            made = next-made ∙ made-eq (sym next-config) next-rest (sym next-taken);
+            within = calling-within;
+            whole = kept .0;
+            total = kept .1;
+          }
+        where
+          made-eq : {m n : Config} {x y : List ℕ} {i j : ℕ} → m ≡ n → x ≡ y → i ≡ j → handedOn m x i ≡ handedOn n y j
+          made-eq a b c = rw (a, b, c)
+
+    -- it did not
+    pub calling-ends : Ended (called .outcome) →
+        CallsOn s piece p₀ (resultOf areas (record { state = called .state; outcome = called .outcome; taken = at + called .taken }))
+    calling-ends n =
+        let all = first-calls s piece p₀ (v .stopped) ∙ next-made in
+        let config = next-config ∙ sym (ap (λ (c : CallsMade). c .config) all) in
+        record {
+          stops = v .stopped;
+          areas = ap (λ (c : Config). c .areas) config;
+          state = ap (λ (c : Config). c .state) config;
+          outcome =
+              next-says
+              ∙ sym
+              (first-says s piece p₀ (v .stopped)
+              ∙ says-last s (v .stopped) (handedOn p₀ piece 0)
+              ∙ ap (λ (c : CallsMade). says leastBlocks s (pieceOf c []) (c .config)) (v .made));
+          taken = next-taken ∙ sym (ap (λ (c : CallsMade). c .taken) all);
+          ended = n;
+        }
 
 -- ---- the loop over the cuts
 
--- the calls that are left, from byte `from` and cut k on, come with the total so far to what all of them come to
-pub record Cutting (s bytes cuts : List ℕ) (p₀ p : Config) (from k total : ℕ) : Type 0 where
-  pub left : leavesCut s (drop from bytes) (drop k cuts) p ≡ leavesCut s bytes cuts p₀
-  pub taken : total + takesCut s (drop from bytes) (drop k cuts) p ≡ takesCut s bytes cuts p₀
-  pub said : saysCut s (drop from bytes) (drop k cuts) p ≡ saysCut s bytes cuts p₀
+joined-none : (n : ℕ) → joined (replicate n []) ≡ []
+unfolding joined
+joined-none zero = refl
+joined-none (suc n) = joined-none n
+
+joined-first : (piece : List ℕ) (n : ℕ) → joined (piece ∷ replicate n []) ≡ piece
+unfolding joined
+joined-first piece n = ap (λ (l : List ℕ). piece ++ l) (joined-none n) ∙ append-nil piece
+
+-- calling on from a config of a run comes to the run past every stop over the piece
+module _ (s : List ℕ) (lengths : Lengths) (h : Header) (piece : List ℕ) (p : Config) (v : Callable s lengths h p) {r : Result} (k : CallsOn s piece p r) where
+  abbrev machineOn : Machine
+  machineOn = machine leastBlocks s (termsOf lengths h)
+
+  said-last : Ended (lastSays leastBlocks s piece (replicate (k .stops) []) (noCalls p))
+  said-last e = k .ended (k .outcome ∙ e)
+
+  on-is : configOf (r .areas) (r .called .state) ≡ allCalls leastBlocks s (piece ∷ replicate (k .stops) []) (noCalls p) .config
+  on-is = rw (k .areas, k .state)
+
+  on-feeds : configOf (r .areas) (r .called .state) ≡ feeds machineOn piece p
+  on-feeds =
+      on-is
+      ∙ ended-feeds s lengths h p v piece (replicate (k .stops) []) said-last
+      ∙ ap (λ (l : List ℕ). feeds machineOn l p) (joined-first piece (k .stops))
+
+  on-counts : r .called .taken ≡ counts machineOn piece p
+  on-counts =
+      k .taken
+      ∙ ended-counts s lengths h p v piece (replicate (k .stops) []) said-last
+      ∙ ap (λ (l : List ℕ). counts machineOn l p) (joined-first piece (k .stops))
+
+  on-says : r .called .outcome ≡ outcomeOf s (feeds machineOn piece p .state)
+  on-says =
+      k .outcome
+      ∙ ended-says s lengths h p v piece (replicate (k .stops) []) said-last
+      ∙ ap (λ (c : Config). outcomeOf s (c .state)) (sym on-is ∙ on-feeds)
+
+  on-callable : Callable s lengths h (configOf (r .areas) (r .called .state))
+  on-callable =
+      let q = piece ∷ replicate (k .stops) [] in
+      subst (Callable s lengths h) (sym (on-is ∙ ap (λ (c : CallsMade). c .config) (all-sent s lengths h p v q)))
+      (all-callable s lengths h q (start p) v)
+
+  on-most : r .called .taken ≤ length piece
+  on-most = rw on-counts (counts-most machineOn (Running s lengths h) (running-sound s lengths h) piece p)
+
+-- the bytes that are left, from byte `from` on, come with the total so far to what all of them come to
+pub record Cutting (s bytes : List ℕ) (p₀ p : Config) (from total : ℕ) : Type 0 where
+  pub header : Header
+  pub terms : termsFor s (lengthsAt s (p₀ .areas)) ≡ termsOf (lengthsAt s (p₀ .areas)) header
+  pub callable : Callable s (lengthsAt s (p₀ .areas)) header p
+  pub left : feeds (machine leastBlocks s (termsOf (lengthsAt s (p₀ .areas)) header)) (drop from bytes) p
+      ≡ feeds (machine leastBlocks s (termsOf (lengthsAt s (p₀ .areas)) header)) bytes p₀
+  pub taken : total + counts (machine leastBlocks s (termsOf (lengthsAt s (p₀ .areas)) header)) (drop from bytes) p
+      ≡ counts (machine leastBlocks s (termsOf (lengthsAt s (p₀ .areas)) header)) bytes p₀
   pub within : from ≤ length bytes
   pub fits : total ≤ from
 
-module _ (s bytes cuts : List ℕ) where
-  pub cutting-start : (p : Config) → Cutting s bytes cuts p p 0 0 0
-  cutting-start p = record { left = refl; taken = omega arith; said = refl; within = omega arith; fits = omega arith }
+-- an opening that was accepted
+pub cutting-start : (s bytes : List ℕ) (a : Areas) {opened : State} → opened ≡ openState leastBlocks s (lengthsAt s a) → opened .refusal .number ≡ none →
+    Cutting s bytes (configOf a opened) (configOf a opened) 0 0
+cutting-start s bytes a o z =
+    let e = claim .decided s a (rw o at z) in
+    let v = starts-callable s a e in
+    rw o
+    (record {
+      header = header s a e;
+      terms = running-terms s (lengthsAt s a) (header s a e) (openedConfig s a) (v .running);
+      callable = v;
+      left = refl;
+      taken = zero-add _;
+      within = omega arith;
+      fits = omega arith;
+    })
 
-  module _ {p₀ p : Config} {from k total : ℕ} (v : Cutting s bytes cuts p₀ p from k total) {areas : Areas} {called : Called} where
+module _ (s bytes : List ℕ) {p₀ p : Config} {from total : ℕ} (v : Cutting s bytes p₀ p from total) where
+  abbrev lengthsCut : Lengths
+  lengthsCut = lengthsAt s (p₀ .areas)
+
+  abbrev machineCut : Machine
+  machineCut = machine leastBlocks s (termsOf lengthsCut (v .header))
+
+  -- what calling on requires of the state
+  pub cutting-state : Whole (tableOf (p .state)) × (p .state .total < 2 ^ 64)
+  cutting-state = (v .callable .running .fits .whole, v .callable .running .fits .total)
+
+  -- a piece of the bytes that are left
+  module _ {end : ℕ} (l : from ≤ end) (m : end ≤ length bytes) {r : Result} (k : CallsOn s (take (end - from) (drop from bytes)) p r) where
+    abbrev piece : List ℕ
+    piece = take (end - from) (drop from bytes)
+
+    split : piece ++ drop end bytes ≡ drop from bytes
+    split =
+        let f : from + (end - from) ≡ end = omega arith in
+        ap (λ (l : List ℕ). piece ++ l) (ap (λ (i : ℕ). drop i bytes) (sym f) ∙ sym (drop-drop (end - from) from bytes))
+        ∙ take-append-drop (end - from) (drop from bytes)
+
     -- the total stays within the data
-    pub total-within : (n : ℕ) → resultOf areas called ≡ callOf leastBlocks s (take n (drop from bytes)) p →
-        (total + called .taken ≤ from + n) × (total + called .taken ≤ length bytes)
-    total-within n r =
-        let a = call-most s (take n (drop from bytes)) p r in
-        let l = length-take n (drop from bytes) in
-        let m = length-drop from bytes in
+    pub cutting-within : (total + r .called .taken ≤ end) × (total + r .called .taken ≤ length bytes)
+    cutting-within =
+        let a = on-most s lengthsCut (v .header) piece p (v .callable) k in
+        let b = length-take (end - from) (drop from bytes) in
+        let c = v .fits in
         (omega arith, omega arith)
 
-    pub cutting-more : k < length cuts → {end : ℕ} → end ≡ from + min (getD cuts k 0) (length bytes - from) →
-        resultOf areas called ≡ callOf leastBlocks s (take (end - from) (drop from bytes)) p →
-        Cutting s bytes cuts p₀ (configOf areas (called .state)) end (k + 1) (total + called .taken)
-    cutting-more h {end} e r =
-        let f = piece-short bytes from (getD cuts k 0) end e in
-        let c : drop k cuts ≡ getD cuts k 0 ∷ drop (k + 1) cuts = rw add-one (drop-cons cuts k 0 h) in
-        let next = call-leaves s (take (end - from) (drop from bytes)) p r in
-        let a = call-takes s (take (end - from) (drop from bytes)) p r in
-        let b = total-within (end - from) r in
+    pub cutting-more : Cutting s bytes p₀ (configOf (r .areas) (r .called .state)) end (total + r .called .taken)
+    cutting-more =
+        let x = v .callable in
+        let Inv = Running s lengthsCut (v .header) in
+        let g = running-sound s lengthsCut (v .header) in
+        let a = on-feeds s lengthsCut (v .header) piece p x k in
+        let b = on-counts s lengthsCut (v .header) piece p x k in
+        let c = counts-append machineCut Inv g piece (drop end bytes) p (x .running) in
+        let d = ap (λ (l : List ℕ). counts machineCut l p) split in
+        let f = ap (counts machineCut (drop end bytes)) a in
+        let t = v .taken in
         record {
-          left = rw (next, f .0, ← f .1) (sym (leaves-first s (drop from bytes) (drop (k + 1) cuts) (getD cuts k 0) p) ∙ rw c at (v .left));
-          taken =
-              rw (next, a, f .0, ← f .1)
-              (omega (arith, takes-first s (drop from bytes) (drop (k + 1) cuts) (getD cuts k 0) p, rw c at (v .taken)));
-          said = rw (next, f .0, ← f .1) (sym (says-first s (drop from bytes) (drop (k + 1) cuts) (getD cuts k 0) p) ∙ rw c at (v .said));
-          within = omega arith;
-          fits = omega arith;
+          header = v .header;
+          terms = v .terms;
+          callable = on-callable s lengthsCut (v .header) piece p x k;
+          left =
+              ap (feeds machineCut (drop end bytes)) a
+              ∙ sym (feeds-append machineCut Inv g piece (drop end bytes) p (x .running))
+              ∙ ap (λ (l : List ℕ). feeds machineCut l p) split
+              ∙ v .left;
+          taken = omega arith;
+          within = m;
+          fits = cutting-within .0;
         }
 
-    -- the last call takes what is left
-    pub cutting-ends : length cuts ≤ k → resultOf areas called ≡ callOf leastBlocks s (take (length bytes - from) (drop from bytes)) p →
-        resultOf areas (record { state = called .state; outcome = called .outcome; taken = total + called .taken })
-        ≡ callsOver s (firstPiece bytes cuts) (laterPieces bytes cuts) p₀
-    cutting-ends h r =
-        let q = take (length bytes - from) (drop from bytes) in
-        let all : q ≡ drop from bytes = let l = length-drop from bytes in take-all (length bytes - from) (drop from bytes) (omega arith) in
-        let none-left = drop-of-length-le cuts h in
-        let end : configOf areas (called .state) ≡ leavesCut s bytes cuts p₀ =
-        call-leaves s q p r ∙ rw all (sym (leaves-last s (drop from bytes) p) ∙ rw none-left at (v .left)) in
-        let says-so : called .outcome ≡ saysCut s bytes cuts p₀ =
-        call-says s q p r ∙ rw all (sym (says-last s (drop from bytes) p) ∙ rw none-left at (v .said)) in
-        let took : total + called .taken ≡ takesCut s bytes cuts p₀ =
-        rw (call-takes s q p r, all, ← takes-last s (drop from bytes) p) (rw none-left at (v .taken)) in
-        rw (← (ap (λ (x : Config). x .areas) end), ← (ap (λ (x : Config). x .state) end), ← says-so, ← took)
+  -- all that is left
+  pub cutting-ends : {r : Result} → CallsOn s (take (length bytes - from) (drop from bytes)) p r →
+      resultOf (r .areas) (record { state = r .called .state; outcome = r .called .outcome; taken = total + r .called .taken })
+      ≡ pastStops s (termsFor s (lengthsAt s (p₀ .areas))) bytes p₀
+  cutting-ends {r} k =
+      let x = v .callable in
+      let left = take (length bytes - from) (drop from bytes) in
+      let all : left ≡ drop from bytes = let l = length-drop from bytes in take-all (length bytes - from) (drop from bytes) (omega arith) in
+      let end : feeds machineCut left p ≡ feeds machineCut bytes p₀ = ap (λ (l : List ℕ). feeds machineCut l p) all ∙ v .left in
+      let config = on-feeds s lengthsCut (v .header) left p x k ∙ end in
+      let took = on-counts s lengthsCut (v .header) left p x k ∙ ap (λ (l : List ℕ). counts machineCut l p) all in
+      let t = v .taken in
+      subst
+      (λ (terms : Terms).
+      resultOf (r .areas) (record { state = r .called .state; outcome = r .called .outcome; taken = total + r .called .taken }) ≡ pastStops s terms bytes p₀)
+      (sym (v .terms))
+      (result-eq (ap (λ (c : Config). c .areas) config) (ap (λ (c : Config). c .state) config)
+      (on-says s lengthsCut (v .header) left p x k ∙ ap (λ (c : Config). outcomeOf s (c .state)) end)
+      (omega arith))
+    where
+      result-eq : {b c : Areas} {t u : State} {x y : Outcome} {m n : ℕ} → b ≡ c → t ≡ u → x ≡ y → m ≡ n →
+          resultOf b (record { state = t; outcome = x; taken = m }) ≡ resultOf c (record { state = u; outcome = y; taken = n })
+      result-eq e f g h = rw (e, f, g, h)
 
--- ---- an opening and the calls after it
+-- ---- an opening and the run after it
 
 -- an opening's state holds its refusal, if any
 module _ (s : List ℕ) (lengths : Lengths) where
@@ -161,43 +396,40 @@ module _ (s : List ℕ) (lengths : Lengths) where
   unfolding openState refusedState
   open-refusal h = rw (ne-eqb (openRefusal leastBlocks s lengths .number) none h)
 
-module _ (s : List ℕ) (a : Areas) (bytes cuts : List ℕ) {opened : State} (o : opened ≡ openState leastBlocks s (lengthsAt s a)) where
+module _ (s : List ℕ) (a : Areas) (bytes : List ℕ) {opened : State} (o : opened ≡ openState leastBlocks s (lengthsAt s a)) where
   pub run-refused : (opened .refusal .number ≡ none → ⊥) →
-      resultOf a (record { state = opened; outcome = outcome.Refused (opened .refusal); taken = 0 }) ≡ runCuts s a bytes cuts
-  unfolding runCuts
+      resultOf a (record { state = opened; outcome = outcome.Refused (opened .refusal); taken = 0 }) ≡ runAll s a bytes
+  unfolding runAll
   run-refused h =
       let n : openRefusal leastBlocks s (lengthsAt s a) .number ≡ none → ⊥ = λ z. h (rw o (open-free s (lengthsAt s a) z)) in
       rw (ne-eqb (openRefusal leastBlocks s (lengthsAt s a) .number) none n, o, open-refusal s (lengthsAt s a) n)
 
-  pub run-accepted : opened .refusal .number ≡ none → {r : Result} →
-      r ≡ callsOver s (firstPiece bytes cuts) (laterPieces bytes cuts) (configOf a opened) → r ≡ runCuts s a bytes cuts
-  unfolding runCuts
+  pub run-accepted : opened .refusal .number ≡ none → {r : Result} → r ≡ pastStops s (termsFor s (lengthsAt s a)) bytes (configOf a opened) →
+      r ≡ runAll s a bytes
+  unfolding runAll
   run-accepted z e =
       let k = claim .decided s a (rw o at z) in
       rw k (e ∙ rw o)
 
--- the claim, of a run over cuts
-accepted-runs : (s : List ℕ) (a : Areas) → Accepted s a → (bytes cuts : List ℕ) →
-    runCuts s a bytes cuts ≡ callsOver s (firstPiece bytes cuts) (laterPieces bytes cuts) (openedConfig s a)
-unfolding runCuts
-accepted-runs s a e bytes cuts = rw e
+-- THE CLAIM, of a run of all the data
+accepted-runs : (s : List ℕ) (a : Areas) → Accepted s a → (bytes : List ℕ) → runAll s a bytes ≡ pastStops s (termsFor s (lengthsAt s a)) bytes (openedConfig s a)
+unfolding runAll
+accepted-runs s a e bytes = rw e
 
-pub cut-claim : CutClaim
-cut-claim =
-    record {
-      agrees = λ s a e bytes cuts.
-          let m : Agrees s a (firstPiece bytes cuts) (laterPieces bytes cuts) (model leastBlocks s a bytes) =
-          rw (joined-cuts bytes cuts) at (claim .agrees s a e (firstPiece bytes cuts) (laterPieces bytes cuts)) in
-          rw (accepted-runs s a e bytes cuts)
-          (record { areas = m .areas; state = m .state; outcome = m .outcome; taken = m .taken });
-      alike = λ s a e bytes cuts others.
-          let k =
-          claim .alike s a e (firstPiece bytes cuts) (firstPiece bytes others) (laterPieces bytes cuts) (laterPieces bytes others)
-          (joined-cuts bytes cuts ∙ sym (joined-cuts bytes others)) in
-          accepted-runs s a e bytes cuts ∙ rw (k .config, k .outcome, k .taken) (sym (accepted-runs s a e bytes others));
-    }
+pub run-claim : RunClaim
+run-claim s a bytes e =
+    let first = openedConfig s a in
+    let terms = running-terms s (lengthsAt s a) (header s a e) first (starts-callable s a e .running) in
+    let m = sym (model-feeds s a e bytes) in
+    subst (λ (r : Result). RunAgrees s a r (model leastBlocks s a bytes))
+    (sym (accepted-runs s a e bytes ∙ ap (λ (t : Terms). pastStops s t bytes first) terms))
+    (record {
+      areas = ap (λ (x : Model). x .areas) m;
+      state = feeds-holds s a e bytes;
+      outcome = ap (modelOutcome s) m;
+      taken = ap (λ (x : Model). x .taken) m;
+    })
 
--- a result that is `runCuts` meets the claim
-pub with-claim : (s : List ℕ) (a : Areas) (bytes cuts : List ℕ) {r : Result} → r ≡ runCuts s a bytes cuts →
-    (r ≡ runCuts s a bytes cuts) × RunMeets s a bytes r
-with-claim s a bytes cuts e = (e, λ k. rw e (cut-claim .agrees s a k bytes cuts))
+-- a result that is `runAll` meets the claim
+pub with-claim : (s : List ℕ) (a : Areas) (bytes : List ℕ) {r : Result} → r ≡ runAll s a bytes → (r ≡ runAll s a bytes) × RunMeets s a bytes r
+with-claim s a bytes e = (e, λ k. rw e (run-claim s a bytes k))

@@ -4,11 +4,11 @@ use mathlib.Core.Path.{_≡_, refl, sym, subst}
 use mathlib.Core.Bool.{true, false}
 use mathlib.Core.List.{List}
 use mathlib.Core.Logic.{⊎-elim}
-use Prim.Native.Nat.{ℕ, _-_, _<_}
+use Prim.Native.Nat.{ℕ, suc, _+_, _-_, _^_, _<_}
 use native.Mathlib.Omega.{arith}
 use lib.ListN.{length, getD}
 use lib.Dec.{leb, eqb}
-use borrow.Author.Tests.{eqb-true, eqb-false}
+use borrow.Author.Tests.{eqb-true}
 use Rattle.text.specs.Expected.{lf}
 use Rattle.text.specs.Line.{lineNumber}
 use Rattle.text.proofs.LineLaws.{line-mark}
@@ -31,13 +31,16 @@ use Rattle.transfer_list.specs.declared.header.HeaderRead.{HeaderRead}
 use Rattle.transfer_list.specs.declared.header.HeaderRead.the-variants as header
 use Rattle.transfer_list.proofs.FaultLaws.{line-fault, command-line-good}
 use Rattle.possible.specs.Possible.{sameLengths, atLine, possibleUnder, isPossible, termsFor}
-use Rattle.machine.proofs.MachineLaws.{Sound, feeds-keeps}
-use Rattle.updater.specs.Effect.{InRun, effect}
-use Rattle.updater.specs.Steps.{Config, passed, refusedWith, furtherInto, stateAfter, after}
-use Rattle.updater.specs.Run.{currentLine, currentCommand, refusalHere, faultHere, refusedAt, quietStep, putByte, isStopped, needsByte, machine}
+use Rattle.machine.proofs.MachineLaws.{Sound}
+use Rattle.machine.proofs.StopLaws.{call-keeps}
+use Rattle.updater.specs.Effect.{InRun}
+use Rattle.updater.specs.Steps.{Config, passed, refusedWith, furtherInto, markedWith, stateAfter, stepAt, after}
+use Rattle.updater.specs.declared.commands.StepEnd.{StepEnd}
+use Rattle.updater.specs.declared.commands.StepEnd.the-variants.{Passed, Ended, Filled, Stretched, Refused}
+use Rattle.updater.specs.Run.{currentLine, currentCommand, refusalHere, faultHere, refusedAt, quietStep, putByte, isStopped, needsByte, haltsAt, machine, runOf}
 use Rattle.updater.specs.Fits.{Fits}
 use Rattle.updater.specs.Calls.{lengthsAt, isRun, leaves}
-use Rattle.updater.proofs.EffectLaws.{effect-refusal}
+use Rattle.updater.proofs.StepLaws.{step-refuses}
 use Rattle.updater.proofs.FitLaws.{NotStopped, not-stopped, fits-sound}
 use Rattle.updater.proofs.CallLaws.{possible-fits}
 use Rattle.sequence.specs.Faults.{GoodLines, nothing-yet, one-more, CallReports}
@@ -109,31 +112,41 @@ module _ (s : List ℕ) (from : ℕ) where
 
     after-reports : p .state .refusal .number ≡ none →
         CallReports s from (after (currentLine s p) (commandOf leastBlocks (currentLine s p) .hash) (currentCommand leastBlocks s p) p .state)
-    unfolding after stateAfter passed
+    unfolding after stateAfter passed markedWith
     after-reports e =
         let l = currentLine s p in
         let hash = commandOf leastBlocks l .hash in
         let c = currentCommand leastBlocks s p in
-        let number = effect l (held (p .state)) hash c (p .areas) .refusal in
-        picks (CallReports s from) (eqb number none) _ (refusedWith (p .state) number 0)
-        (λ t. none-reports _ e)
-        (λ t. ⊎-elim (λ z. absurd (eqb-false number none t z)) (stopped-reports (p .state) number)
-        (effect-refusal l (held (p .state)) hash c (p .areas)))
+        go (stepAt l hash c p .end) (λ n r. step-refuses l (held (p .state)) hash c (p .state .ready) (p .state .stretches) (p .areas) r)
+      where
+        go : (x : StepEnd) → ((n : ℕ) → x ≡ Refused n → InRun n) →
+            CallReports s from (stateAfter (currentLine s p) (commandOf leastBlocks (currentLine s p) .hash) (currentCommand leastBlocks s p) (p .state) x)
+        go Passed r = none-reports _ e
+        go Ended r = none-reports _ e
+        go Filled r = none-reports _ e
+        go Stretched r = none-reports _ e
+        go (Refused number) r = stopped-reports (p .state) number (r number refl)
 
     -- the next line is reached, or the run stays at this one
     after-follows : refusalHere leastBlocks s terms p ≡ none → Follows s from (p .state) →
         Follows s from (after (currentLine s p) (commandOf leastBlocks (currentLine s p) .hash) (currentCommand leastBlocks s p) p .state)
-    unfolding after stateAfter passed refusedWith refusalOf
+    unfolding after stateAfter passed markedWith refusedWith refusalOf
     after-follows e v =
         let l = currentLine s p in
         let hash = commandOf leastBlocks l .hash in
         let c = currentCommand leastBlocks s p in
-        let number = effect l (held (p .state)) hash c (p .areas) .refusal in
         let end = command-ended l (good-command l terms (held (p .state)) hash c e) in
-        let m = line-mark s (p .state .at) (end .place) (end .text) in
-        picks (Follows s from) (eqb number none) _ (refusedWith (p .state) number 0)
-        (λ t. record { line = omega (arith, v .line, m .1); before = one-more (v .before) (command-line-good s (p .state .at) terms (held (p .state)) e) })
-        (λ t. record { line = v .line; before = v .before })
+        go (stepAt l hash c p .end) (line-mark s (p .state .at) (end .place) (end .text) .1)
+      where
+        go : (x : StepEnd) → lineNumber s (p .state .at + length (currentLine s p)) ≡ suc (lineNumber s (p .state .at)) →
+            Follows s from (stateAfter (currentLine s p) (commandOf leastBlocks (currentLine s p) .hash) (currentCommand leastBlocks s p) (p .state) x)
+        go Passed m =
+            record { line = omega (arith, v .line, m); before = one-more (v .before) (command-line-good s (p .state .at) terms (held (p .state)) e) }
+        go Ended m =
+            record { line = omega (arith, v .line, m); before = one-more (v .before) (command-line-good s (p .state .at) terms (held (p .state)) e) }
+        go Filled m = record { line = v .line; before = v .before }
+        go Stretched m = record { line = v .line; before = v .before }
+        go (Refused number) m = record { line = v .line; before = v .before }
 
     quiet-follows : Follows s from (p .state) → Follows s from (quietStep leastBlocks s terms p .state)
     unfolding quietStep refusedAt refusedWith
@@ -183,17 +196,17 @@ module _ (s : List ℕ) (from : ℕ) where
         put-keeps = λ p x i w n. (f .put-keeps p x (i .0) w n, put-follows x p (i .1), put-reports x p (i .2));
       }
 
--- a call that is a run, over a state whose two tables have their lengths, whatever the list is by then
+-- a call that is a run, over a state whose two tables have their lengths and whose total is a word, whatever the list is by then
 pub call-reports : (s piece : List ℕ) (p : Config) → isRun leastBlocks s p ≡ true → length (p .state .hashes) ≡ tableBytes →
-    length (p .state .sizes) ≡ mostStashes → CallReports s (p .state .at) (leaves leastBlocks s piece p .state)
-unfolding isRun leaves
-call-reports s piece p r a b =
+    length (p .state .sizes) ≡ mostStashes → p .state .total < 2 ^ 64 → CallReports s (p .state .at) (leaves leastBlocks s piece p .state)
+unfolding isRun leaves runOf
+call-reports s piece p r a b c =
     let k = both-true (eqb (p .state .refusal .number) none) (isPossible leastBlocks s (lengthsAt s (p .areas)) (p .state)) r in
     let from = p .state .at in
     let terms = termsFor s (lengthsAt s (p .areas)) in
     rw r
-    (feeds-keeps (machine leastBlocks s terms) (Reporting s from terms) (reports-sound s from terms) piece p (
-      possible-fits s p (k .1) a b,
+    (call-keeps (machine leastBlocks s terms) (haltsAt leastBlocks s terms) (Reporting s from terms) (reports-sound s from terms) piece p (
+      possible-fits s p (k .1) a b c,
       record { line = possible-line s (lengthsAt s (p .areas)) (p .state) (k .1); before = nothing-yet },
       none-reports s from (p .state) (eqb-true (p .state .refusal .number) none (k .0)),
     ) .2)

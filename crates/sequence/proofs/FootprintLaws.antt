@@ -1,24 +1,27 @@
 -- The lines of a list that was opened change, of the image, only the blocks of their targets, of the work area only the blocks of their
 -- sources, of the result area only those of their results, and of the stash area only line 4's blocks: a step without a byte, a byte of new
--- data, and any number of them.
+-- data, and any number of them, up to a stop or past it.
 -- Assumes nothing.
-use mathlib.Core.Path.{_≡_, refl, subst, _∙_}
-use mathlib.Core.Bool.{true, false}
+use mathlib.Core.Path.{_≡_, refl, sym, subst, _∙_}
+use mathlib.Core.Bool.{Bool, true, false}
+use mathlib.Core.Logic.{⊎-elim}
 use mathlib.Core.List.{List, []}
 use Prim.Native.Nat.{ℕ, _*_, _/_, _≤_, _<_}
 use native.Mathlib.Omega.{arith}
-use borrow.Author.Tests.{ltb-true, eqb-true}
+use borrow.Author.Tests.{ltb-true, eqb-true, eqb-false}
 use lib.Dec.{ltb, eqb}
 use lib.ListN.{length, take, set, length-take}
 use Rattle.text.specs.Line.{lineAt}
-use Rattle.text.proofs.ChoiceLaws.{picks, both-true, either-false}
+use Rattle.text.proofs.ChoiceLaws.{bool, picks, both-true, either-false}
 use Rattle.ranges.specs.Ranges.{leastBlocks}
-use Rattle.command.specs.Patching.{patchingOf, resultHash}
-use Rattle.ranges.specs.Walk.{blocksAt, AllBelow}
+use Rattle.command.specs.Patching.{patchingOf}
+use Rattle.ranges.specs.Walk.{blocksAt}
 use Rattle.ranges.specs.declared.RangeSet.{RangeSet}
 use Rattle.state.specs.Limits.{blockBytes}
 use Rattle.state.specs.Refusals.{none}
-use Rattle.state.specs.Stashes.{Stash, held, findIn, blocksHeld}
+use Rattle.state.specs.States.{isReady}
+use Rattle.state.specs.Stashes.{Stash, held, findIn, sizeAt, blocksHeld, younger}
+use Rattle.state.specs.Stretches.{stretchBlocks}
 use Rattle.state.specs.declared.Lengths.{Lengths}
 use Rattle.state.specs.declared.State.{State}
 use Rattle.state.specs.declared.stashes.Found.{Found}
@@ -39,16 +42,19 @@ use Rattle.transfer_list.specs.Header.{headerOf}
 use Rattle.transfer_list.specs.Opening.{firstAt, termsOf}
 use Rattle.transfer_list.specs.declared.header.Header.{Header}
 use Rattle.machine.specs.Machine.{feeds}
+use Rattle.machine.specs.Stops.{callEnds}
 use Rattle.machine.proofs.MachineLaws.{Sound, feeds-keeps}
+use Rattle.machine.proofs.StopLaws.{call-keeps}
 use Rattle.patch.specs.Patch.{isPatch, patchedBy}
 use Rattle.patch.proofs.PatchLaws.{patched-length}
 use Rattle.updater.specs.Areas.{Areas, withImage, withStash, withWork, withResult}
 use Rattle.updater.specs.Bytes.{addressOf}
-use Rattle.updater.specs.Source.{supplied, together, closedUp, hashesTo}
-use Rattle.updater.specs.Effect.{Effect, done, verified, zeroEffect, targetWritten, moveEffect, patchOf, resultEffect, patchEffect}
-use Rattle.updater.specs.Effect.{bsdiffEffect, stashWritten, stashEffect, closedFound, freeEffect, unfinishedEffect, isFinished, effect}
+use Rattle.updater.specs.Source.{together, hashesTo, stretched}
+use Rattle.updater.specs.Effect.{Effect, moveFilled, stashFilled, patchOf, resultFilled, patchFilled, bsdiffFilled, filled, writtenFrom, isFinished}
 use Rattle.updater.specs.Runnable.{Runnable}
-use Rattle.updater.specs.Steps.{Config, passed, refusedWith, furtherInto, stateAfter, after}
+use Rattle.updater.specs.Steps.{Config, passed, refusedWith, furtherInto, markedWith, Stepped, fillStep, freeStep, stepOf, stateAfter, after}
+use Rattle.updater.specs.declared.commands.StepEnd.{StepEnd}
+use Rattle.updater.specs.declared.commands.StepEnd.the-variants.{Passed, Ended, Filled, Stretched, Refused}
 use Rattle.updater.specs.Run.{currentLine, currentCommand, refusalHere, quietStep, newBlocks, newBytes, putByte, isStopped, needsByte}
 use Rattle.updater.specs.Run.{machine}
 use Rattle.updater.proofs.FitLaws.{not-stopped}
@@ -60,6 +66,7 @@ use Rattle.sequence.proofs.Running.{Running}
 use Rattle.sequence.proofs.RunningLaws.{running-line, running-sound}
 use Rattle.sequence.proofs.SameLaws.{same, same-then, same-fewer, OutOf, Past, over-same, moved-same, zeroed-same, written-same}
 use Rattle.sequence.proofs.SameLaws.{put-same, supplied-same, together-same}
+use Rattle.sequence.proofs.WholeLineLaws.{moved-down-none}
 
 -- ---- a command
 
@@ -102,77 +109,115 @@ writes-then e f =
 
 -- what a patch changes, with the source in the work area
 patch-writes : (l : List ℕ) (k : ℕ) (a : Areas) (patching : Patching) (target : RangeSet) (n : ℕ) (source : Source) →
-    AllBelow (length (a .image) / blockBytes) (blocksAt l (target .at)) → target .blocks ≤ length (a .result) / blockBytes →
-    Writes l (command.Bsdiff target n source) k a (patchEffect l patching target n a .areas)
-unfolding patchEffect resultEffect targetBlocks resultLength
-patch-writes l k a patching target n source below room =
+    target .blocks ≤ length (a .result) / blockBytes →
+    Writes l (command.Bsdiff target n source) k a (patchFilled l patching target n a .areas)
+unfolding patchFilled resultFilled resultLength
+patch-writes l k a patching target n source room =
     let c = command.Bsdiff target n source in
     let p = patchOf patching a in
     let bytes = patchedBy p (take (blockBytes * n) (a .work)) in
     picks (λ (x : Effect). Writes l c k a (x .areas)) (isPatch p (blockBytes * target .blocks)) _ _
     (λ g.
     let size = patched-length p (take (blockBytes * n) (a .work)) (blockBytes * target .blocks) g in
-    let made = writes-result (over-same (a .result) 0 bytes (target .blocks) (omega arith) (omega arith)) in
-    picks (λ (x : Effect). Writes l c k a (x .areas)) (hashesTo _ (target .blocks) (resultHash l (patching .hashes))) _ _
-    (λ h. writes-then made (writes-image (written-same (blocksAt l (target .at)) _ (a .image) below)))
-    (λ h. made))
+    writes-result (over-same (a .result) 0 bytes (target .blocks) (omega arith) (omega arith)))
     (λ g. writes-nothing l c k a)
 
 module _ (l : List ℕ) (terms : Terms) (held : List Stash) (hash : List ℕ) (a : Areas)
     (blocks : blocksHeld held ≤ terms .blocks) (room : blockBytes * terms .blocks ≤ length (a .stash)) where
-  -- where the hash differs, only the work area was filled
-  verified-writes : (c : Command) (n : ℕ) (go : Areas → Effect) (b : Areas) → Writes l c (terms .blocks) a b →
-      Writes l c (terms .blocks) a (go b .areas) → Writes l c (terms .blocks) a (verified n hash go b .areas)
-  verified-writes c n go b e f =
-      picks (λ (x : Effect). Writes l c (terms .blocks) a (x .areas)) (hashesTo (b .work) n hash) _ _ (λ t. f) (λ t. e)
-
-  closed-same : (f : Found) → SameIn (Past (terms .blocks)) (a .stash) (closedFound held (a .stash) f)
-  unfolding closedUp
-  closed-same (At j) =
-      let older = blocks-held-before held j in
-      moved-same (a .stash) _ _ _ (terms .blocks) (omega arith) (omega arith) (omega arith)
-  closed-same Nothing = same (a .stash)
-
-  unfinished-writes : (c : Command) → refusalFor l terms held hash c ≡ none → Runnable l held a c →
-      Writes l c (terms .blocks) a (unfinishedEffect l held hash c a .areas)
-  unfolding unfinishedEffect zeroEffect moveEffect bsdiffEffect stashEffect freeEffect Runnable targetBlocks sourceLength resultLength
-  unfinished-writes (command.Zero set) e r = writes-image (zeroed-same (blocksAt l (set .at)) (a .image) (r .below))
-  unfinished-writes (command.Erase set) e r = writes-image (zeroed-same (blocksAt l (set .at)) (a .image) (r .below))
-  unfinished-writes (command.New set) e r = writes-nothing l (command.New set) (terms .blocks) a
-  unfinished-writes (command.Move target n source) e r =
-      let w = together l (a .image) (a .stash) held source (a .work) in
+  -- filling
+  fill-writes : (c : Command) → refusalFor l terms held hash c ≡ none → Runnable l held a c →
+      Writes l c (terms .blocks) a (filled l held hash c a .areas)
+  unfolding filled moveFilled bsdiffFilled stashFilled Runnable sourceLength
+  fill-writes (command.Zero set) e r = writes-nothing l (command.Zero set) (terms .blocks) a
+  fill-writes (command.Erase set) e r = writes-nothing l (command.Erase set) (terms .blocks) a
+  fill-writes (command.New set) e r = writes-nothing l (command.New set) (terms .blocks) a
+  fill-writes (command.Move target n source) e r =
       let f = move-fits l terms held hash e refl in
-      let filled = writes-work (together-same l (a .stash) held n terms (a .image) source (a .work) (f .from) (r .room)) in
-      verified-writes (command.Move target n source) n (done (targetWritten l target n)) (withWork a w) filled
-      (writes-then filled (writes-image (written-same (blocksAt l (target .at)) (take (blockBytes * n) w) (a .image) (r .goal .below))))
-  unfinished-writes (command.Bsdiff target n source) e r =
-      let w = together l (a .image) (a .stash) held source (a .work) in
+      writes-work (together-same l (a .stash) held n terms (a .image) source (a .work) (f .from) (r .room))
+  fill-writes (command.Bsdiff target n source) e r =
+      let c = command.Bsdiff target n source in
+      let work = together l (a .image) (a .stash) held source (a .work) in
       let f = bsdiff-fits l terms held hash e refl in
-      let filled = writes-work (together-same l (a .stash) held n terms (a .image) source (a .work) (f .from) (r .patched .room)) in
-      verified-writes (command.Bsdiff target n source) n (patchEffect l (patchingOf l) target n) (withWork a w) filled
-      (writes-then filled (patch-writes l (terms .blocks) (withWork a w) (patchingOf l) target n source (r .patched .goal .below) (r .patched .holds)))
-  unfinished-writes (command.Stash set) e r =
-      let w = supplied l (a .image) (set .at) (set .blocks) (a .work) in
-      let f = stash-fits l terms held hash e refl in
-      let filled = writes-work (supplied-same l (a .stash) held (set .blocks) (a .image) (set .at) (a .work) (r .room)) in
-      let most = f .room in
-      let short = length-take (blockBytes * set .blocks) w in
-      verified-writes (command.Stash set) (set .blocks) (done (stashWritten held (set .blocks))) (withWork a w) filled
-      (writes-then filled
-      (writes-stash
-      (over-same (a .stash) (blockBytes * blocksHeld held) (take (blockBytes * set .blocks) w) (terms .blocks) (omega arith) (omega arith))))
-  unfinished-writes command.Free e r = writes-stash (closed-same (findIn held hash))
-  unfinished-writes command.Unsupported e r = writes-nothing l command.Unsupported (terms .blocks) a
-  unfinished-writes (command.Bad p) e r = writes-nothing l (command.Bad p) (terms .blocks) a
+      let source-made = writes-work (together-same l (a .stash) held n terms (a .image) source (a .work) (f .from) (r .patched .room)) in
+      picks (λ (x : Effect). Writes l c (terms .blocks) a (x .areas)) (hashesTo work n hash) _ _
+      (λ t. writes-then source-made (patch-writes l (terms .blocks) (withWork a work) (patchingOf l) target n source (r .patched .holds)))
+      (λ t. source-made)
+  fill-writes (command.Stash set) e r =
+      writes-work (supplied-same l (a .stash) held (set .blocks) (a .image) (set .at) (a .work) (r .room))
+  fill-writes command.Free e r = writes-nothing l command.Free (terms .blocks) a
+  fill-writes command.Unsupported e r = writes-nothing l command.Unsupported (terms .blocks) a
+  fill-writes (command.Bad p) e r = writes-nothing l (command.Bad p) (terms .blocks) a
 
-  -- one that is finished changes nothing
-  effect-writes : (c : Command) → refusalFor l terms held hash c ≡ none → Runnable l held a c →
-      Writes l c (terms .blocks) a (effect l held hash c a .areas)
-  unfolding effect
-  effect-writes c e r =
-      picks (λ (x : Effect). Writes l c (terms .blocks) a (x .areas)) (isFinished l hash c (a .image)) _ _
-      (λ t. writes-nothing l c (terms .blocks) a)
-      (λ t. unfinished-writes c e r)
+  -- writing from what was filled
+  from-writes : (c : Command) → refusalFor l terms held hash c ≡ none → Runnable l held a c →
+      Writes l c (terms .blocks) a (writtenFrom l held c a)
+  unfolding writtenFrom Runnable targetBlocks
+  from-writes (command.Zero set) e r = writes-nothing l (command.Zero set) (terms .blocks) a
+  from-writes (command.Erase set) e r = writes-nothing l (command.Erase set) (terms .blocks) a
+  from-writes (command.New set) e r = writes-nothing l (command.New set) (terms .blocks) a
+  from-writes (command.Move target n source) e r =
+      writes-image (written-same (blocksAt l (target .at)) (take (blockBytes * n) (a .work)) (a .image) (r .goal .below))
+  from-writes (command.Bsdiff target n source) e r =
+      writes-image
+      (written-same (blocksAt l (target .at)) (take (blockBytes * target .blocks) (a .result)) (a .image) (r .patched .goal .below))
+  from-writes (command.Stash set) e r =
+      let f = stash-fits l terms held hash e refl in
+      let most = f .room in
+      let short = length-take (blockBytes * set .blocks) (a .work) in
+      writes-stash
+      (over-same (a .stash) (blockBytes * blocksHeld held) (take (blockBytes * set .blocks) (a .work)) (terms .blocks) (omega arith)
+      (omega arith))
+  from-writes command.Free e r = writes-nothing l command.Free (terms .blocks) a
+  from-writes command.Unsupported e r = writes-nothing l command.Unsupported (terms .blocks) a
+  from-writes (command.Bad p) e r = writes-nothing l (command.Bad p) (terms .blocks) a
+
+  -- one of the two; what is finished changes nothing
+  fill-step-writes : (c : Command) (ready : ℕ) → refusalFor l terms held hash c ≡ none → Runnable l held a c →
+      Writes l c (terms .blocks) a (fillStep l held hash c ready a .areas)
+  unfolding fillStep
+  fill-step-writes c ready e r =
+      picks (λ (x : Stepped). Writes l c (terms .blocks) a (x .areas)) (isReady ready) _ _
+      (λ t. from-writes c e r)
+      (λ t.
+      picks (λ (x : Stepped). Writes l c (terms .blocks) a (x .areas)) (isFinished l hash c (a .image)) _ _
+      (λ u. writes-nothing l c (terms .blocks) a)
+      (λ u. fill-writes c e r))
+
+  -- a stretch of a `free`
+  stretched-same : (j k : ℕ) → SameIn (Past (terms .blocks)) (a .stash) (stretched held j k (a .stash))
+  unfolding stretched stretchBlocks
+  stretched-same j k =
+      let gap = sizeAt held j in
+      let moved = k * gap in
+      let n = stretchBlocks gap (younger held j) k in
+      let older = blocks-held-before held j in
+      ⊎-elim
+      (λ t.
+      let none : blockBytes * n ≡ 0 = omega (arith, eqb-true n 0 t) in
+      rw none (subst (SameIn (Past (terms .blocks)) (a .stash)) (sym (moved-down-none (a .stash) _ _)) (same (a .stash))))
+      (λ t.
+      let some = eqb-false n 0 t in
+      moved-same (a .stash) _ _ _ (terms .blocks) (omega arith) (omega (arith, some)) (omega (arith, some)))
+      (bool (eqb n 0))
+
+  free-writes : (k : ℕ) (f : Found) → Writes l command.Free (terms .blocks) a (freeStep held k a f .areas)
+  unfolding freeStep
+  free-writes k (At j) = writes-stash (stretched-same j k)
+  free-writes k Nothing = writes-nothing l command.Free (terms .blocks) a
+
+  -- a step of a command
+  step-writes : (c : Command) (ready k : ℕ) → refusalFor l terms held hash c ≡ none → Runnable l held a c →
+      Writes l c (terms .blocks) a (stepOf l held hash c ready k a .areas)
+  unfolding stepOf Runnable targetBlocks
+  step-writes (command.Zero set) ready k e r = writes-image (zeroed-same (blocksAt l (set .at)) (a .image) (r .below))
+  step-writes (command.Erase set) ready k e r = writes-image (zeroed-same (blocksAt l (set .at)) (a .image) (r .below))
+  step-writes (command.New set) ready k e r = writes-nothing l (command.New set) (terms .blocks) a
+  step-writes (command.Move target n source) ready k e r = fill-step-writes (command.Move target n source) ready e r
+  step-writes (command.Bsdiff target n source) ready k e r = fill-step-writes (command.Bsdiff target n source) ready e r
+  step-writes (command.Stash set) ready k e r = fill-step-writes (command.Stash set) ready e r
+  step-writes command.Free ready k e r = free-writes k (findIn held hash)
+  step-writes command.Unsupported ready k e r = writes-nothing l command.Unsupported (terms .blocks) a
+  step-writes (command.Bad p) ready k e r = writes-nothing l (command.Bad p) (terms .blocks) a
 
 -- a byte into a `new`
 byte-writes : (l : List ℕ) (held : List Stash) (a : Areas) (n : ℕ) (c : Command) (k x : ℕ) → Runnable l held a c → k < newBytes c →
@@ -216,9 +261,13 @@ module _ (s : List ℕ) (a₀ : Areas) where
       }
 
 -- a step without a byte does not go back
-after-at : (l hash : List ℕ) (c : Command) (t : State) (number : ℕ) → t .at ≤ stateAfter l hash c t number .at
-unfolding stateAfter passed refusedWith
-after-at l hash c t number = picks (λ (u : State). t .at ≤ u .at) (eqb number none) _ _ (λ e. omega arith) (λ e. omega arith)
+after-at : (l hash : List ℕ) (c : Command) (t : State) (end : StepEnd) → t .at ≤ stateAfter l hash c t end .at
+unfolding stateAfter passed markedWith refusedWith
+after-at l hash c t Passed = omega arith
+after-at l hash c t Ended = omega arith
+after-at l hash c t Filled = omega arith
+after-at l hash c t Stretched = omega arith
+after-at l hash c t (Refused number) = omega arith
 
 module _ (s : List ℕ) (lengths : Lengths) (h : Header) (p : Config) (v : Running s lengths h p) where
   -- the current line
@@ -235,8 +284,8 @@ module _ (s : List ℕ) (lengths : Lengths) (h : Header) (p : Config) (v : Runni
     unfolding after refusalOf
     here-writes =
         rw line-four
-        (effect-writes (currentLine s p) (termsOf lengths h) (held (p .state)) (commandOf leastBlocks (currentLine s p) .hash) (p .areas)
-        (v .fits .blocks) (v .fits .stash) (currentCommand leastBlocks s p) e
+        (step-writes (currentLine s p) (termsOf lengths h) (held (p .state)) (commandOf leastBlocks (currentLine s p) .hash) (p .areas)
+        (v .fits .blocks) (v .fits .stash) (currentCommand leastBlocks s p) (p .state .ready) (p .state .stretches) e
         (runnable s (termsOf lengths h) p (v .fits) e))
 
     here-byte : (x : ℕ) → p .state .into < newBytes (currentCommand leastBlocks s p) →
@@ -288,3 +337,10 @@ module _ (s : List ℕ) (lengths : Lengths) (h : Header) (a₀ : Areas) where
       OnlyWritten s (feeds (machine leastBlocks s (termsOf lengths h)) xs p .state .at) a₀ (feeds (machine leastBlocks s (termsOf lengths h)) xs p .areas)
   feeds-written xs p v w =
       feeds-keeps (machine leastBlocks s (termsOf lengths h)) (λ p. Running s lengths h p × Written p) written-sound xs p (v, w) .1
+
+  -- .. and a call, which may stop before their end
+  pub call-written : (halts : Config → Bool) (xs : List ℕ) (p : Config) → Running s lengths h p → OnlyWritten s (p .state .at) a₀ (p .areas) →
+      OnlyWritten s (callEnds (machine leastBlocks s (termsOf lengths h)) halts xs p .config .state .at) a₀
+      (callEnds (machine leastBlocks s (termsOf lengths h)) halts xs p .config .areas)
+  call-written halts xs p v w =
+      call-keeps (machine leastBlocks s (termsOf lengths h)) halts (λ p. Running s lengths h p × Written p) written-sound xs p (v, w) .1

@@ -2,6 +2,7 @@ pub mod Running
 pub mod RunningLaws
 pub mod PossibleLaws
 pub mod OpenedLaws
+pub mod WholeLineLaws
 pub mod ModelLaws
 pub mod SameLaws
 pub mod FootprintLaws

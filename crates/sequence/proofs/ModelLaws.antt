@@ -10,7 +10,7 @@ use native.Mathlib.Omega.{arith}
 use lib.ListN.{length, take, drop, take-append-drop}
 use lib.Seq.{length-take-le}
 use lib.Dec.{leb, eqb}
-use borrow.Author.Tests.{leb-true, leb-false, eqb-false, ne-eqb}
+use borrow.Author.Tests.{leb-true, leb-false}
 use Rattle.text.specs.Choice.{no}
 use Rattle.text.proofs.ChoiceLaws.{bool, either-or-true}
 use Rattle.text.proofs.LineLaws.{line-some}
@@ -30,15 +30,16 @@ use Rattle.rules.specs.Rules.{refusalOf}
 use Rattle.rules.specs.declared.Terms.{Terms}
 use Rattle.rules.proofs.HeldLaws.{held-after}
 use Rattle.machine.specs.Machine.{feeds, counts}
-use Rattle.machine.proofs.MachineLaws.{Sound, feeds-quiet, counts-quiet, feeds-stopped, counts-stopped, feeds-end, counts-end}
+use Rattle.machine.proofs.MachineLaws.{Sound, feeds-stopped, counts-stopped, feeds-end, counts-end}
 use Rattle.machine.proofs.LoopLaws.{puts-keeps, feeds-puts, counts-puts}
 use Rattle.updater.specs.Effect.{Effect, unfinishedEffect, isFinished, effect}
-use Rattle.updater.specs.Steps.{Config, configOf, passed, refusedWith, furtherInto, stateAfter, after}
+use Rattle.updater.specs.Steps.{Config, configOf, passed, refusedWith, furtherInto}
 use Rattle.updater.specs.Fits.{Fits}
-use Rattle.updater.specs.Run.{machine, currentLine, currentCommand, refusalHere, quietStep, isStopped, newBytes, newBlocks}
+use Rattle.updater.specs.Run.{machine, currentLine, currentCommand, refusalHere, isStopped, newBytes, newBlocks}
 use Rattle.updater.proofs.FitLaws.{NotStopped}
-use Rattle.updater.proofs.AtLineLaws.{stepHere, moves, waits, step, fed, fed-goes, fed-refusal, eats-new, puts-new}
+use Rattle.updater.proofs.AtLineLaws.{waits, fed, fed-goes, fed-refusal, eats-new, puts-new}
 use Rattle.updater.proofs.RunLaws.{is-new}
+use Rattle.sequence.proofs.WholeLineLaws.{wholeLine, line-whole}
 use Rattle.sequence.specs.Model.{Model, lineEnds, withBytes, doNew, doEffect, doLine, runLines}
 
 -- a configuration, and the bytes taken so far, as the model has them
@@ -63,20 +64,43 @@ pub record Runs (s : List ℕ) (terms : Terms) (Inv : Config → Type 0) : Type 
   pub fits : (p : Config) → Inv p → Fits s terms p
   pub unrefused : (p : Config) → Inv p → p .state .refusal .number ≡ none → p .state .at < length s → refusalHere leastBlocks s terms p ≡ none
 
--- a model is what the machine comes to, from p with k bytes taken
-abbrev Is : List ℕ → Terms → Config → List ℕ → ℕ → Model → Type 0
-Is s terms p xs k m = m ≡ modelOf (feeds (machine leastBlocks s terms) xs p) (k + counts (machine leastBlocks s terms) xs p)
+-- nothing is ready and no stretch is moved
+pub record Fresh (p : Config) : Type 0 where
+  pub ready : p .state .ready ≡ 0
+  pub stretches : p .state .stretches ≡ 0
 
--- n lines of the model are right, from every line's start
+-- a model is what the machine comes to, from p with k bytes taken, and nothing is left there of a line's steps
+record Is (s : List ℕ) (terms : Terms) (p : Config) (xs : List ℕ) (k : ℕ) (m : Model) : Type 0 where
+  model : m ≡ modelOf (feeds (machine leastBlocks s terms) xs p) (k + counts (machine leastBlocks s terms) xs p)
+  fresh : Fresh (feeds (machine leastBlocks s terms) xs p)
+
+-- .. as it is where the machine comes to the same
+is-from : {s : List ℕ} {terms : Terms} {p q : Config} {xs ys : List ℕ} {k j : ℕ} {m : Model} →
+    feeds (machine leastBlocks s terms) xs p ≡ feeds (machine leastBlocks s terms) ys q →
+    k + counts (machine leastBlocks s terms) xs p ≡ j + counts (machine leastBlocks s terms) ys q → Is s terms q ys j m → Is s terms p xs k m
+is-from e f i = record { model = i .model ∙ model-eq _ _ _ _ (sym e) (sym f); fresh = subst Fresh (sym e) (i .fresh) }
+
+-- .. and where it goes no further
+is-here : {s : List ℕ} {terms : Terms} {p q : Config} {xs : List ℕ} {k n : ℕ} {m : Model} →
+    feeds (machine leastBlocks s terms) xs p ≡ q → k + counts (machine leastBlocks s terms) xs p ≡ n → Fresh q → m ≡ modelOf q n →
+    Is s terms p xs k m
+is-here e f y i = record { model = i ∙ model-eq _ _ _ _ (sym e) (sym f); fresh = subst Fresh (sym e) y }
+
+-- from every line's start, where n is more than the lines left
+abbrev pub FromStarts : List ℕ → (Config → Type 0) → ℕ → (Config → List ℕ → ℕ → Type 0) → Type 0
+FromStarts s Inv n P =
+    (p : Config) (xs : List ℕ) (k : ℕ) → Inv p → p .state .refusal .number ≡ none → p .state .into ≡ 0 → Fresh p → 0 < n →
+    length s < n + p .state .at → P p xs k
+
+-- n lines of the model are right
 abbrev Lines : List ℕ → Terms → (Config → Type 0) → ℕ → Type 0
-Lines s terms Inv n =
-    (p : Config) (xs : List ℕ) (k : ℕ) → Inv p → p .state .refusal .number ≡ none → p .state .into ≡ 0 → 0 < n →
-    length s < n + p .state .at → Is s terms p xs k (runLines leastBlocks n s (modelOf p k) xs)
+Lines s terms Inv n = FromStarts s Inv n (λ p xs k. Is s terms p xs k (runLines leastBlocks n s (modelOf p k) xs))
 
 -- q is past the line of p
 record Next (s : List ℕ) (p q : Config) : Type 0 where
   unrefused : q .state .refusal .number ≡ none
   into : q .state .into ≡ 0
+  fresh : Fresh q
   at : q .state .at ≡ p .state .at + length (currentLine s p)
 
 -- past the line l, the areas as they are
@@ -89,41 +113,29 @@ module _ (blocks xs : List ℕ) (p : Config) (k : ℕ) (i : p .state .into ≡ 0
   model-fed = rw (i, zero-add)
 
 module _ (s : List ℕ) (terms : Terms) (Inv : Config → Type 0) (g : Runs s terms Inv) where
-  -- a step without a byte
-  quietly : (p q : Config) (xs : List ℕ) → Inv p → NotStopped s p → refusalHere leastBlocks s terms p ≡ none →
-      newBytes (currentCommand leastBlocks s p) ≤ p .state .into → stepHere s p ≡ q →
-      (feeds (machine leastBlocks s terms) xs p ≡ feeds (machine leastBlocks s terms) xs q) × (counts (machine leastBlocks s terms) xs p ≡ counts (machine leastBlocks s terms) xs q) × Inv q
-  quietly p q xs v l r h e =
-      let w = moves s terms p l r h in
-      let f : quietStep leastBlocks s terms p ≡ q = step s terms p l r ∙ e in (
-        feeds-quiet (machine leastBlocks s terms) Inv (g .sound) xs p v w ∙ ap (feeds (machine leastBlocks s terms) xs) f,
-        counts-quiet (machine leastBlocks s terms) Inv (g .sound) xs p v w ∙ ap (counts (machine leastBlocks s terms) xs) f,
-        subst Inv f (g .sound .quiet-keeps p v w),
-      )
+  module _ (p : Config) (xs : List ℕ) (k : ℕ) (m : Model) (v : Inv p) (y : Fresh p) (l : NotStopped s p)
+      (r : refusalHere leastBlocks s terms p ≡ none) (h : newBytes (currentCommand leastBlocks s p) ≤ p .state .into) where
+    -- the line ends, and the lines after it go on
+    onward : (n : ℕ) → Lines s terms Inv n → Next s p (wholeLine s p) → length s < suc n + p .state .at → m ≡ modelOf (wholeLine s p) k →
+        Is s terms p xs k (runLines leastBlocks n s m xs)
+    onward n ih t f a =
+        let z = line-whole s terms Inv (g .sound) p v (g .fits p v) l r h (y .ready) (y .stretches) in
+        let b = line-some s (p .state .at) (l .within) in
+        let c = l .within in
+        let d = t .at in
+        is-from (z .ends xs) (ap (λ (j : ℕ). k + j) (z .takes xs))
+        (subst (λ (x : Model). Is s terms (wholeLine s p) xs k (runLines leastBlocks n s x xs)) (sym a)
+        (ih (wholeLine s p) xs k (z .kept) (t .unrefused) (t .into) (t .fresh) (omega arith) (omega arith)))
 
-  -- the line ends, and the lines after it go on
-  onward : (n : ℕ) → Lines s terms Inv n → (p q : Config) (xs : List ℕ) (k : ℕ) (m : Model) → Inv p → NotStopped s p →
-      refusalHere leastBlocks s terms p ≡ none → newBytes (currentCommand leastBlocks s p) ≤ p .state .into → stepHere s p ≡ q → Next s p q →
-      length s < suc n + p .state .at → m ≡ modelOf q k → Is s terms p xs k (runLines leastBlocks n s m xs)
-  onward n ih p q xs k m v l r h e t f a =
-      let z = quietly p q xs v l r h e in
-      let b = line-some s (p .state .at) (l .within) in
-      let c = l .within in
-      let d = t .at in
-      ap (λ (x : Model). runLines leastBlocks n s x xs) a
-      ∙ ih q xs k (z .2) (t .unrefused) (t .into) (omega arith) (omega arith)
-      ∙ model-eq _ _ _ _ (sym (z .0)) (ap (λ (j : ℕ). k + j) (sym (z .1)))
+    -- a command stops the run: the machine has stopped
+    halts : isStopped s (wholeLine s p) ≡ true → Fresh (wholeLine s p) → m ≡ modelOf (wholeLine s p) k → Is s terms p xs k m
+    halts t u a =
+        let z = line-whole s terms Inv (g .sound) p v (g .fits p v) l r h (y .ready) (y .stretches) in
+        let c = counts-stopped (machine leastBlocks s terms) Inv (g .sound) xs (wholeLine s p) (z .kept) t in
+        let d = z .takes xs in
+        is-here (z .ends xs ∙ feeds-stopped (machine leastBlocks s terms) Inv (g .sound) xs (wholeLine s p) (z .kept) t) (omega arith) u a
 
-  -- a command stops the run: the machine has stopped
-  halts : (p q : Config) (xs : List ℕ) (k : ℕ) (m : Model) → Inv p → NotStopped s p → refusalHere leastBlocks s terms p ≡ none →
-      newBytes (currentCommand leastBlocks s p) ≤ p .state .into → stepHere s p ≡ q → isStopped s q ≡ true → m ≡ modelOf q k → Is s terms p xs k m
-  halts p q xs k m v l r h e t a =
-      let z = quietly p q xs v l r h e in
-      let c = counts-stopped (machine leastBlocks s terms) Inv (g .sound) xs q (z .2) t in
-      let d = z .1 in
-      a ∙ model-eq _ _ _ _ (sym (z .0 ∙ feeds-stopped (machine leastBlocks s terms) Inv (g .sound) xs q (z .2) t)) (omega arith)
-
-  module _ (n : ℕ) (ih : Lines s terms Inv n) (p : Config) (xs : List ℕ) (k : ℕ) (v : Inv p) (l : NotStopped s p)
+  module _ (n : ℕ) (ih : Lines s terms Inv n) (p : Config) (xs : List ℕ) (k : ℕ) (v : Inv p) (y : Fresh p) (l : NotStopped s p)
       (f : length s < suc n + p .state .at) where
     good : refusalHere leastBlocks s terms p ≡ none
     good = g .unrefused p v (l .unrefused) (l .within)
@@ -135,19 +147,19 @@ module _ (s : List ℕ) (terms : Terms) (Inv : Config → Type 0) (g : Runs s te
     abbrev done : Effect
     done = effect line (held (p .state)) (commandOf leastBlocks line .hash) (currentCommand leastBlocks s p) (p .areas)
 
-    stopped-after : (done .refusal ≡ none → ⊥) → isStopped s (stepHere s p) ≡ true
-    unfolding after stateAfter refusedWith isStopped
-    stopped-after z = rw (ne-eqb (done .refusal) none z, ne-eqb (done .refusal) none z)
+    stopped-after : eqb (done .refusal) none ≡ false → isStopped s (wholeLine s p) ≡ true
+    unfolding refusedWith isStopped
+    stopped-after h = rw (h, h)
 
     -- a command that takes no new data
     effect-line : newBytes (currentCommand leastBlocks s p) ≡ 0 → Is s terms p xs k (doEffect (runLines leastBlocks n s) line (commandOf leastBlocks line) (modelOf p k) xs done)
-    unfolding after stateAfter passed refusedWith refusalOf
+    unfolding passed refusedWith refusalOf
     effect-line b =
         ⊎-elim
         (λ (h : eqb (done .refusal) none ≡ true).
         rw h
-        (onward n ih p (stepHere s p) xs k _ v l good (omega arith) refl
-        (rw h (record { unrefused = l .unrefused; into = refl; at = refl }))
+        (onward p xs k _ v y l good (omega arith) n ih
+        (rw h (record { unrefused = l .unrefused; into = refl; fresh = record { ready = refl; stretches = refl }; at = refl }))
         f
         (rw (
           h,
@@ -156,7 +168,7 @@ module _ (s : List ℕ) (terms : Terms) (Inv : Config → Type 0) (g : Runs s te
         ))))
         (λ (h : eqb (done .refusal) none ≡ false).
         rw h
-        (halts p (stepHere s p) xs k _ v l good (omega arith) refl (stopped-after (eqb-false (done .refusal) none h)) (rw h)))
+        (halts p xs k _ v y l good (omega arith) (stopped-after h) (rw h (record { ready = y .ready; stretches = y .stretches })) (rw h)))
         (bool (eqb (done .refusal) none))
 
     -- bytes of a `new`, as many as it still takes or fewer
@@ -166,7 +178,7 @@ module _ (s : List ℕ) (terms : Terms) (Inv : Config → Type 0) (g : Runs s te
         × Inv (fed blocks ys p)
     bytes-go blocks ys zs e h =
         let a = eats-new s terms ys p l good (omega arith) in
-        let q = puts-new s terms blocks ys p e in (
+        let q = puts-new s terms blocks ys p e (g .fits p v .total) in (
           feeds-puts (machine leastBlocks s terms) Inv (g .sound) ys zs p v a ∙ ap (feeds (machine leastBlocks s terms) zs) q,
           counts-puts (machine leastBlocks s terms) Inv (g .sound) ys zs p v a ∙ ap (λ (m : Config). length ys + counts (machine leastBlocks s terms) zs m) q,
           subst Inv q (puts-keeps (machine leastBlocks s terms) Inv (g .sound) ys p v a),
@@ -196,14 +208,18 @@ module _ (s : List ℕ) (terms : Terms) (Inv : Config → Type 0) (g : Runs s te
       unfolding fed furtherInto
       fed-into ys = omega arith
 
-      -- the step after its last byte
-      ended : (ys : List ℕ) → stepHere s (fed target ys p) ≡ passedLine (fed target ys p) line
-      unfolding after effect isFinished unfinishedEffect stateAfter tableAfter fed furtherInto passedLine
+      -- after its last byte
+      ended : (ys : List ℕ) → wholeLine s (fed target ys p) ≡ passedLine (fed target ys p) line
+      unfolding effect isFinished unfinishedEffect tableAfter fed furtherInto passedLine
       ended ys = rw (is-new (currentCommand leastBlocks s p) e)
 
       past-next : (ys : List ℕ) → Next s (fed target ys p) (passedLine (fed target ys p) line)
       unfolding fed furtherInto passedLine passed
-      past-next ys = record { unrefused = l .unrefused; into = refl; at = refl }
+      past-next ys = record { unrefused = l .unrefused; into = refl; fresh = record { ready = refl; stretches = refl }; at = refl }
+
+      fed-fresh : (ys : List ℕ) → Fresh (fed target ys p)
+      unfolding fed furtherInto
+      fed-fresh ys = record { ready = y .ready; stretches = y .stretches }
 
       later : (ys : List ℕ) → length s < suc n + fed target ys p .state .at
       unfolding fed furtherInto
@@ -228,10 +244,10 @@ module _ (s : List ℕ) (terms : Terms) (Inv : Config → Type 0) (g : Runs s te
           let b = a .1 in
           let x = fed-bytes ys in
           let y = fed-into ys in
-          onward n ih (fed target ys p) (passedLine (fed target ys p) line) zs (k + length ys) _ (a .2) (fed-goes s terms target ys p l)
-          (fed-refusal s terms target ys p ∙ good) (omega arith) (ended ys) (past-next ys) (later ys)
-          (ap (lineEnds line) (model-fed target ys p k i) ∙ model-past ys)
-          ∙ model-eq _ _ _ _ (sym (a .0) ∙ ap (λ (y : List ℕ). feeds (machine leastBlocks s terms) y p) c) (omega arith)
+          is-from (ap (λ (y : List ℕ). feeds (machine leastBlocks s terms) y p) (sym c) ∙ a .0) (omega arith)
+          (onward (fed target ys p) zs (k + length ys) _ (a .2) (fed-fresh ys) (fed-goes s terms target ys p l)
+          (fed-refusal s terms target ys p ∙ good) (omega arith) n ih (subst (Next s (fed target ys p)) (sym (ended ys)) (past-next ys)) (later ys)
+          (ap (lineEnds line) (model-fed target ys p k i) ∙ model-past ys ∙ ap (λ (q : Config). modelOf q (k + length ys)) (sym (ended ys))))
 
       -- they are not
       new-part : length xs < need → Is s terms p xs k (withBytes target xs (modelOf p k))
@@ -246,12 +262,13 @@ module _ (s : List ℕ) (terms : Terms) (Inv : Config → Type 0) (g : Runs s te
           let y = fed-into xs in
           let w =
           waits s terms (fed target xs p) (fed-goes s terms target xs p l) (fed-refusal s terms target xs p ∙ good) (omega arith) in
-          model-fed target xs p k i
-          ∙ model-eq _ _ _ _
-          (sym (feeds-end (machine leastBlocks s terms) Inv (g .sound) (fed target xs p) (a .2) w)
-          ∙ sym (a .0)
-          ∙ ap (λ (y : List ℕ). feeds (machine leastBlocks s terms) y p) c)
+          is-here
+          (ap (λ (y : List ℕ). feeds (machine leastBlocks s terms) y p) (sym c)
+          ∙ a .0
+          ∙ feeds-end (machine leastBlocks s terms) Inv (g .sound) (fed target xs p) (a .2) w)
           (omega arith)
+          (fed-fresh xs)
+          (model-fed target xs p k i)
 
       new-line : Is s terms p xs k (doNew (runLines leastBlocks n s) line set (modelOf p k) xs)
       new-line =
@@ -275,17 +292,27 @@ module _ (s : List ℕ) (terms : Terms) (Inv : Config → Type 0) (g : Runs s te
   unfolding isStopped
   ended-stops p a = rw a (sym (either-or-true (no (eqb (p .state .refusal .number) none))))
 
-  -- n lines of the model, from a line's start, are a call over all the bytes
-  pub lines : (n : ℕ) → Lines s terms Inv n
+  lines-are : (n : ℕ) → Lines s terms Inv n
   unfolding runLines
-  lines zero p xs k v e i h f = absurd (omega arith)
-  lines (suc n) p xs k v e i h f =
+  lines-are zero p xs k v e i y h f = absurd (omega arith)
+  lines-are (suc n) p xs k v e i y h f =
       ⊎-elim
       (λ (a : leb (length s) (p .state .at) ≡ true).
       let z = ended-stops p a in
       let c = counts-stopped (machine leastBlocks s terms) Inv (g .sound) xs p v z in
-      rw a (model-eq _ _ _ _ (sym (feeds-stopped (machine leastBlocks s terms) Inv (g .sound) xs p v z)) (omega arith)))
+      rw a (is-here (feeds-stopped (machine leastBlocks s terms) Inv (g .sound) xs p v z) (omega arith) y refl))
       (λ (a : leb (length s) (p .state .at) ≡ false).
       rw a
-      (one-line n (lines n) p xs k v (record { unrefused = e; within = leb-false (length s) (p .state .at) a }) f i))
+      (one-line n (lines-are n) p xs k v y (record { unrefused = e; within = leb-false (length s) (p .state .at) a }) f i))
       (bool (leb (length s) (p .state .at)))
+
+  -- n lines of the model, from a line's start, are a call over all the bytes
+  pub lines : (n : ℕ) →
+      FromStarts s Inv n
+      (λ p xs k. runLines leastBlocks n s (modelOf p k) xs
+      ≡ modelOf (feeds (machine leastBlocks s terms) xs p) (k + counts (machine leastBlocks s terms) xs p))
+  lines n p xs k v e i y h f = lines-are n p xs k v e i y h f .model
+
+  -- .. which leaves nothing ready and no stretch moved
+  pub lines-fresh : (n : ℕ) → FromStarts s Inv n (λ p xs k. Fresh (feeds (machine leastBlocks s terms) xs p))
+  lines-fresh n p xs k v e i y h f = lines-are n p xs k v e i y h f .fresh

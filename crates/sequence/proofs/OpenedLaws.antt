@@ -14,7 +14,7 @@ use Rattle.text.specs.Line.{lineAt}
 use Rattle.ranges.specs.Ranges.{leastBlocks}
 use Rattle.state.specs.Refusals.{none, totalDiffers}
 use Rattle.state.specs.Limits.{mostStashes, tableBytes}
-use Rattle.state.specs.Stashes.{Stash, heldIn, entries, heldTwice, blocksHeld}
+use Rattle.state.specs.Stashes.{Stash, heldIn, entries, heldTwice, holdsEmpty, blocksHeld}
 use Rattle.state.specs.declared.Lengths.{Lengths}
 use Rattle.state.specs.declared.Refusal.{Refusal}
 use Rattle.state.specs.declared.State.{State}
@@ -27,6 +27,7 @@ use Rattle.transfer_list.specs.declared.header.Header.{Header}
 use Rattle.transfer_list.specs.declared.header.HeaderRead.{HeaderRead}
 use Rattle.transfer_list.specs.declared.header.HeaderRead.the-variants.{Good, Bad}
 use Rattle.transfer_list.proofs.HeaderLaws.{Opening, header-first, header-last, header-lines, start-none}
+use Rattle.possible.specs.Possible.{canBeStretched}
 use Rattle.updater.specs.Fits.{Fits}
 use Rattle.updater.specs.Areas.{Areas}
 use Rattle.updater.specs.Steps.{Config, configOf}
@@ -34,6 +35,7 @@ use Rattle.updater.specs.Calls.{lengthsAt}
 use Rattle.sequence.specs.Claim.{openedConfig, Accepted}
 use Rattle.text.proofs.ChoiceLaws.{bool, picks}
 use Rattle.sequence.proofs.Running.{WalkLeft, going, Running}
+use Rattle.sequence.proofs.ModelLaws.{Fresh}
 
 module _ (s : List ℕ) (lengths : Lengths) (e : openRefusal leastBlocks s lengths ≡ noRefusal) where
   -- neither the start nor a command line is refused
@@ -55,7 +57,7 @@ startsAt s a h = configOf a (stateAt firstLine (h .first) noRefusal (lengthsAt s
 
 module _ (s : List ℕ) (a : Areas) (o : Opening s (lengthsAt s a)) where
   fits : Fits s (termsOf (lengthsAt s a) (o .header)) (startsAt s a (o .header))
-  unfolding blocksHeld heldIn entries
+  unfolding blocksHeld heldIn entries canBeStretched
   fits =
       let f = header-first s (o .read) in
       record {
@@ -77,6 +79,8 @@ module _ (s : List ℕ) (a : Areas) (o : Opening s (lengthsAt s a)) where
               count = omega arith;
             };
         blocks = omega arith;
+        total = omega arith;
+        stretches = refl;
       }
 
   walk : commandsRefusal leastBlocks s (lengthsAt s a) (headerOf s) ≡ noRefusal →
@@ -86,7 +90,7 @@ module _ (s : List ℕ) (a : Areas) (o : Opening s (lengthsAt s a)) where
 
   starts : startRefusal s (lengthsAt s a) .number ≡ none → commandsRefusal leastBlocks s (lengthsAt s a) (headerOf s) ≡ noRefusal →
       Running s (lengthsAt s a) (o .header) (startsAt s a (o .header))
-  unfolding heldIn entries heldTwice
+  unfolding heldIn entries heldTwice holdsEmpty
   starts z e =
       record {
         fits = fits;
@@ -95,7 +99,9 @@ module _ (s : List ℕ) (a : Areas) (o : Opening s (lengthsAt s a)) where
         header = o .read;
         at-line = record { first = omega arith; ended = header-last s (o .read); line = sym (header-lines s (o .read)) };
         once = refl;
+        none-empty = refl;
         into = inl refl;
+        ready = inl refl;
         goes = going refl (walk e);
       }
 
@@ -139,14 +145,23 @@ state-decided s lengths =
     (λ e r. open-decided s lengths (eqb-true (openRefusal leastBlocks s lengths .number) none e))
     (λ e r. absurd (eqb-false (openRefusal leastBlocks s lengths .number) none e r))
 
--- where an accepted opening leaves a run, with no byte into a `new`
-pub opened-running : (s : List ℕ) (a : Areas) → Accepted s a →
-    (h : Header) × Running s (lengthsAt s a) h (openedConfig s a) × (openedConfig s a .state .into ≡ 0)
+-- where an accepted opening leaves a run: at the start of a line, with no byte taken
+pub record Starts (s : List ℕ) (a : Areas) : Type 0 where
+  pub header : Header
+  pub running : Running s (lengthsAt s a) header (openedConfig s a)
+  pub into : openedConfig s a .state .into ≡ 0
+  pub fresh : Fresh (openedConfig s a)
+  pub total : openedConfig s a .state .total ≡ 0
+
+pub opened-running : (s : List ℕ) (a : Areas) → Accepted s a → Starts s a
 opened-running s a e =
     let b = accepted s (lengthsAt s a) e in
     let o = start-none s (lengthsAt s a) (b .0) in
-    let q = opened-state s (lengthsAt s a) e (o .read) in (
-      o .header,
-      subst (λ (t : State). Running s (lengthsAt s a) (o .header) (configOf a t)) (sym q) (starts s a o (b .0) (b .1)),
-      ap (λ (t : State). t .into) q,
-    )
+    let q = opened-state s (lengthsAt s a) e (o .read) in
+    record {
+      header = o .header;
+      running = subst (λ (t : State). Running s (lengthsAt s a) (o .header) (configOf a t)) (sym q) (starts s a o (b .0) (b .1));
+      into = ap (λ (t : State). t .into) q;
+      fresh = record { ready = ap (λ (t : State). t .ready) q; stretches = ap (λ (t : State). t .stretches) q };
+      total = ap (λ (t : State). t .total) q;
+    }

@@ -1,7 +1,7 @@
 -- Of the image a command reads its target blocks, to see whether it is finished, and its source blocks: over images that are alike in
 -- these, the same source is put together, its hash differs or not alike, and the same is patched and stashed.
 -- Assumes nothing.
-use mathlib.Core.Path.{_≡_, refl, sym, _∙_}
+use mathlib.Core.Path.{_≡_, refl, sym, subst, _∙_}
 use mathlib.Core.Bool.{Bool, true, false}
 use mathlib.Core.List.{List, [], _∷_}
 use Prim.Native.Nat.{ℕ, _+_, _*_, _<_}
@@ -14,6 +14,7 @@ use Rattle.text.specs.Choice.{pick}
 use Rattle.text.proofs.ChoiceLaws.{either-or-true}
 use Rattle.ranges.specs.Walk.{blocksAt}
 use Rattle.state.specs.Limits.{blockBytes}
+use Rattle.state.specs.Refusals.{none}
 use Rattle.state.specs.Stashes.{Stash}
 use Rattle.command.specs.Targets.{imageBlocksOf, targetBlocks, sourceBlocks}
 use Rattle.command.specs.declared.source.Source.{Source}
@@ -25,9 +26,9 @@ use Rattle.command.specs.Patching.{patchingOf, resultHash}
 use Rattle.patch.specs.Patch.{isPatch}
 use Rattle.updater.specs.Bytes.{blockAt, gathered}
 use Rattle.updater.specs.Source.{supplied, together, hashesTo, blocksHashTo}
-use Rattle.updater.specs.Areas.{Areas, withImage, withWork}
-use Rattle.updater.specs.Effect.{Effect, zeroEffect, moveEffect, patchOf, resultMade, resultEffect, patchEffect, bsdiffEffect, stashEffect}
-use Rattle.updater.specs.Effect.{freeEffect, unfinishedEffect, isFinished, effect}
+use Rattle.updater.specs.Areas.{Areas, withImage}
+use Rattle.updater.specs.Effect.{Effect, effectOf, moveFilled, stashFilled, patchOf, resultFilled, patchFilled, bsdiffFilled, filled, writtenFrom}
+use Rattle.updater.specs.Effect.{isFinished, filledWritten, unfinishedEffect, effect}
 use Rattle.sequence.specs.Footprint.{SameIn, SameButImage, FinishedByTarget, FinishedLeaves, OnlyRead}
 use Rattle.sequence.proofs.SameLaws.{same-fewer}
 
@@ -86,31 +87,62 @@ alike-unless : (t : Bool) {x y x' y' : Effect} → SameButImage x x' → (t ≡ 
 alike-unless true e f = e
 alike-unless false e f = f refl
 
+-- what is filled
+filled-read : (l : List ℕ) (held : List Stash) (hash : List ℕ) (c : Command) (a : Areas) (image : List ℕ) →
+    SameIn (In (sourceBlocks l c)) (a .image) image → SameButImage (filled l held hash c a) (filled l held hash c (withImage a image))
+unfolding filled moveFilled bsdiffFilled patchFilled resultFilled stashFilled sourceBlocks
+filled-read l held hash (command.Zero set) a image f = alike refl refl refl refl
+filled-read l held hash (command.Erase set) a image f = alike refl refl refl refl
+filled-read l held hash (command.New set) a image f = alike refl refl refl refl
+filled-read l held hash (command.Move target n source) a image f =
+    rw (together-reads l (a .stash) held source (a .work) f) (alike refl refl refl refl)
+filled-read l held hash (command.Bsdiff target n source) a image f =
+    rw (together-reads l (a .stash) held source (a .work) f)
+    (alike-pick (hashesTo (together l (a .image) (a .stash) held source (a .work)) n hash)
+    (alike-pick (isPatch (patchOf (patchingOf l) a) (blockBytes * target .blocks)) (alike refl refl refl refl) (alike refl refl refl refl))
+    (alike refl refl refl refl))
+filled-read l held hash (command.Stash set) a image f =
+    rw (supplied-reads l (set .at) (set .blocks) (a .work) f) (alike refl refl refl refl)
+filled-read l held hash command.Free a image f = alike refl refl refl refl
+filled-read l held hash command.Unsupported a image f = alike refl refl refl refl
+filled-read l held hash (command.Bad p) a image f = alike refl refl refl refl
+
+-- .. and what is written from it
+written-read : (l : List ℕ) (held : List Stash) (c : Command) (x y : Effect) → SameButImage x y →
+    SameButImage (effectOf (writtenFrom l held c (x .areas)) none) (effectOf (writtenFrom l held c (y .areas)) none)
+unfolding writtenFrom
+written-read l held (command.Zero set) x y f = alike (f .stash) (f .work) (f .result) refl
+written-read l held (command.Erase set) x y f = alike (f .stash) (f .work) (f .result) refl
+written-read l held (command.New set) x y f = alike (f .stash) (f .work) (f .result) refl
+written-read l held (command.Move target n source) x y f = alike (f .stash) (f .work) (f .result) refl
+written-read l held (command.Bsdiff target n source) x y f = alike (f .stash) (f .work) (f .result) refl
+written-read l held (command.Stash set) x y f = alike (rw (f .stash, f .work)) (f .work) (f .result) refl
+written-read l held command.Free x y f = alike (f .stash) (f .work) (f .result) refl
+written-read l held command.Unsupported x y f = alike (f .stash) (f .work) (f .result) refl
+written-read l held (command.Bad p) x y f = alike (f .stash) (f .work) (f .result) refl
+
+filled-written-read : (l : List ℕ) (held : List Stash) (hash : List ℕ) (c : Command) (a : Areas) (image : List ℕ) →
+    SameIn (In (sourceBlocks l c)) (a .image) image → SameButImage (filledWritten l held hash c a) (filledWritten l held hash c (withImage a image))
+unfolding filledWritten
+filled-written-read l held hash c a image f =
+    let x = filled l held hash c a in
+    let y = filled l held hash c (withImage a image) in
+    let g = filled-read l held hash c a image f in
+    subst (λ (n : ℕ). SameButImage (filledWritten l held hash c a) (pick (eqb n none) (effectOf (writtenFrom l held c (y .areas)) none) y))
+    (sym (g .refusal))
+    (alike-pick (eqb (x .refusal) none) (written-read l held c x y g) g)
+
 unfinished-read : (l : List ℕ) (held : List Stash) (hash : List ℕ) (c : Command) (a : Areas) (image : List ℕ) →
     SameIn (In (sourceBlocks l c)) (a .image) image →
     SameButImage (unfinishedEffect l held hash c a) (unfinishedEffect l held hash c (withImage a image))
-unfolding unfinishedEffect zeroEffect moveEffect bsdiffEffect patchEffect resultEffect stashEffect freeEffect sourceBlocks
+unfolding unfinishedEffect
 unfinished-read l held hash (command.Zero set) a image f = alike refl refl refl refl
 unfinished-read l held hash (command.Erase set) a image f = alike refl refl refl refl
 unfinished-read l held hash (command.New set) a image f = alike refl refl refl refl
-unfinished-read l held hash (command.Move target n source) a image f =
-    rw (together-reads l (a .stash) held source (a .work) f)
-    (alike-pick (hashesTo (together l (a .image) (a .stash) held source (a .work)) n hash) (alike refl refl refl refl) (alike refl refl refl refl))
+unfinished-read l held hash (command.Move target n source) a image f = filled-written-read l held hash (command.Move target n source) a image f
 unfinished-read l held hash (command.Bsdiff target n source) a image f =
-    let work = together l (a .image) (a .stash) held source (a .work) in
-    let patching = patchingOf l in
-    let made = resultMade patching n (withWork a work) .result in
-    rw (together-reads l (a .stash) held source (a .work) f)
-    (alike-pick (hashesTo work n hash)
-    (alike-pick (isPatch (patchOf patching a) (blockBytes * target .blocks))
-    (alike-pick (hashesTo made (target .blocks) (resultHash l (patching .hashes))) (alike refl refl refl refl) (alike refl refl refl refl))
-    (alike refl refl refl refl))
-    (alike refl refl refl refl))
-unfinished-read l held hash (command.Stash set) a image f =
-    rw (supplied-reads l (set .at) (set .blocks) (a .work) f)
-    (alike-pick (hashesTo (supplied l (a .image) (set .at) (set .blocks) (a .work)) (set .blocks) hash)
-    (alike refl refl refl refl)
-    (alike refl refl refl refl))
+    filled-written-read l held hash (command.Bsdiff target n source) a image f
+unfinished-read l held hash (command.Stash set) a image f = filled-written-read l held hash (command.Stash set) a image f
 unfinished-read l held hash command.Free a image f = alike refl refl refl refl
 unfinished-read l held hash command.Unsupported a image f = alike refl refl refl refl
 unfinished-read l held hash (command.Bad p) a image f = alike refl refl refl refl

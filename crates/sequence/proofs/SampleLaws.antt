@@ -17,6 +17,7 @@ use Rattle.text.specs.Hex.{hexOf}
 use Rattle.text.specs.declared.expected.Expected.the-variants as expected
 use Rattle.state.specs.Limits.{blockBytes}
 use Rattle.state.specs.Stashes.{same, findIn, isHeld, sizeAt, blocksHeld, without}
+use Rattle.state.specs.Stretches.{isStretch, stretchBlocks}
 use Rattle.state.proofs.StashLaws.{same-refl, same-eq}
 use Rattle.command.specs.Words.{wordIn}
 use Rattle.command.specs.Fields.{numberField, hashField, setField, lastSet}
@@ -31,8 +32,8 @@ use Rattle.rules.specs.Move.{sourcePast, sourceOver, usesBy, someMissing, stash
 use Rattle.rules.specs.Move.{placesBy, isIn, someMisplaced, sourcedRefusal, moveRefusal}
 use Rattle.rules.specs.Rules.{freeRefusal, refusalFor, refusalOf}
 use Rattle.updater.specs.Bytes.{zeroed, putBytes}
-use Rattle.updater.specs.Source.{stashBytes, spread, supplied, together, hashesTo, blocksHashTo, closedUp}
-use Rattle.updater.specs.Effect.{zeroEffect, moveEffect, freeEffect, unfinishedEffect, isFinished, effect}
+use Rattle.updater.specs.Source.{stashBytes, spread, supplied, together, hashesTo, blocksHashTo, closedUp, stretched}
+use Rattle.updater.specs.Effect.{moveFilled, filled, writtenFrom, filledWritten, unfinishedEffect, isFinished, effect}
 use Rattle.sequence.specs.Samples.{text, Block, Digest, hex, bytesOf, patchLine, Table, Samples}
 use Rattle.updater.proofs.NewLaws.{put-bytes-append}
 use Rattle.text.proofs.HexLaws.{hash-written}
@@ -126,7 +127,7 @@ module _ (A B C D E F G H T1 T2 T3 W1 W2 W3 : Block) where
       rangesOf blocksAt AllBelow hexOf wordIn numberField hashField setField lastSet rangeLine withPlaces afterBlocks sourceFrom sourceField
       lengthFrom targetFrom freeFrom hashedLine digestFrom patchedLine lengthLine bsdiffLine commandOf partEnd placesFrom partAt partsIn partsAt partsField usesIn usesAt findIn isHeld sizeAt blocksHeld without sourcePast sourceOver usesBy someMissing stashBlocks
       someDiffer placesNamed sourceDiffers placesOf placesBy isIn someMisplaced sourcedRefusal moveRefusal freeRefusal refusalFor refusalOf stashBytes
-      faultOf faultByte spread supplied together closedUp hashesTo newTarget heldAfter zeroEffect moveEffect freeEffect unfinishedEffect blocksHashTo isFinished effect pickedOf putAt zeroed
+      faultOf faultByte spread supplied together closedUp hashesTo newTarget heldAfter moveFilled filled writtenFrom filledWritten unfinishedEffect blocksHashTo isFinished effect pickedOf putAt zeroed isStretch stretchBlocks stretched
   table =
       record {
         case-1 = record { sized = record { end = 5; read = refl }; order = refl };
@@ -177,6 +178,11 @@ module _ (A B C D E F G H T1 T2 T3 W1 W2 W3 : Block) where
         case-13 = λ x y X Y1 Y2. (
           rw (hash-13 x, same-refl (x .bytes)) (moved-row (X ∷ Y1 ∷ Y2 ∷ []) 0 1 2),
           rw (hash-13 x, same-refl (x .bytes)),
+        );
+        stretches = λ x y z. (
+          record { area = moved-row (A ∷ B ∷ C ∷ D ∷ E ∷ F ∷ G ∷ []) 0 2 2; ends = refl },
+          record { area = moved-row (C ∷ D ∷ C ∷ D ∷ E ∷ F ∷ G ∷ []) 2 4 2; ends = refl },
+          record { area = moved-row (C ∷ D ∷ E ∷ F ∷ E ∷ F ∷ G ∷ []) 4 6 1; ends = refl },
         );
       }
 

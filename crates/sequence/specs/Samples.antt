@@ -1,6 +1,6 @@
--- Document 01, "Sample lists": cases 1 to 13, in one table, and what R-8 of document 02 adds to them. They are about the rules themselves: how range sets and lines are read, what a
--- line is refused for, and what the model does with it. Document 02, R-7: 3 and 6 are refusals. In 7 and 8 the hash is taken to match,
--- whatever it is; R-8: and the target's to differ from it.
+-- Document 01, "Sample lists": cases 1 to 13, in one table, and what R-8 and R-9 of document 02 add to them. They are about the rules
+-- themselves: how range sets and lines are read, what a line is refused for, and what the model does with it. Document 02, R-7: 3 and 6 are
+-- refusals. In 7 and 8 the hash is taken to match, whatever it is; R-8: and the target's to differ from it.
 -- Assumes nothing: these are definitions.
 use mathlib.Core.Path.{_≡_}
 use mathlib.Core.Bool.{false}
@@ -27,7 +27,11 @@ use Rattle.rules.specs.declared.Terms.{Terms}
 use Rattle.state.specs.States.{noRefusal}
 use Rattle.transfer_list.specs.Header.{firstLine}
 use Rattle.updater.specs.Areas.{areasOf}
+use Rattle.updater.specs.Source.{stretched}
 use Rattle.updater.specs.Effect.{isFinished}
+use Rattle.updater.specs.Steps.{freeEnd}
+use Rattle.updater.specs.declared.commands.StepEnd.{StepEnd}
+use Rattle.updater.specs.declared.commands.StepEnd.the-variants.{Ended, Stretched}
 use Rattle.sequence.specs.Model.{Model, doLine, lineEnds}
 
 -- the bytes of a text of plain characters
@@ -94,6 +98,11 @@ patchLine h t = text "bsdiff 0 0 " ++ hex h ++ text " " ++ hex t ++ text " 2,1,3
 -- a stash of n blocks, held under a hash
 abbrev pub stashOf : Digest → ℕ → Stash
 stashOf h n = record { hash = h .bytes; blocks = n }
+
+-- stretch k of the `free` of the oldest stash leaves the stash area so, and ends so (document 02, R-9)
+pub record Stretch (stashes : List Stash) (k : ℕ) (before after : List Block) (end : StepEnd) : Type 0 where
+  pub area : stretched stashes 0 k (bytesOf before) ≡ bytesOf after
+  pub ends : freeEnd stashes 0 k ≡ end
 
 -- an image of 8 blocks A to H; the stash area's blocks are T1 T2 T3, the work area's W1 W2 W3. Each may hold any bytes, its letter or others.
 module _ (A B C D E F G H T1 T2 T3 W1 W2 W3 : Block) where
@@ -169,6 +178,12 @@ module _ (A B C D E F G H T1 T2 T3 W1 W2 W3 : Block) where
     pub case-13 : (x y : Digest) (X Y1 Y2 : Block) →
         let left = done (text "free " ++ hex x ++ text "\n") (holding (X ∷ Y1 ∷ Y2 ∷ []) (stashOf x 1 ∷ stashOf y 2 ∷ [])) [] in
         (left .areas .stash ≡ bytesOf (Y1 ∷ Y2 ∷ Y2 ∷ [])) × (blocksHeld (left .stashes) ≡ 2)
+    -- .. R-9: stash area A B | C D E | F G, then `free` of the first in three stretches: C D C D E F G, C D E F E F G, C D E F G F G.
+    pub stretches : (x y z : Digest) →
+        let stashes = stashOf x 2 ∷ stashOf y 3 ∷ stashOf z 2 ∷ [] in
+        Stretch stashes 0 (A ∷ B ∷ C ∷ D ∷ E ∷ F ∷ G ∷ []) (C ∷ D ∷ C ∷ D ∷ E ∷ F ∷ G ∷ []) Stretched
+        × Stretch stashes 1 (C ∷ D ∷ C ∷ D ∷ E ∷ F ∷ G ∷ []) (C ∷ D ∷ E ∷ F ∷ E ∷ F ∷ G ∷ []) Stretched
+        × Stretch stashes 2 (C ∷ D ∷ E ∷ F ∷ E ∷ F ∷ G ∷ []) (C ∷ D ∷ E ∷ F ∷ G ∷ F ∷ G ∷ []) Ended
 
 -- THE TABLE, whatever the blocks hold
 abbrev pub Samples : Type 0

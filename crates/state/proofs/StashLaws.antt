@@ -1,4 +1,4 @@
--- Laws of lists of stashes: hashes that are the same, a hash among the stashes, no hash twice, their blocks, and one taken out.
+-- Laws of lists of stashes: hashes that are the same, a hash among the stashes, no hash twice, none of no blocks, their blocks, and one taken out.
 -- Assumes nothing.
 use mathlib.Core.Path.{_≡_, refl, sym, ap, ap₂, _∙_}
 use mathlib.Core.Bool.{Bool, true, false}
@@ -7,7 +7,7 @@ use mathlib.Core.List.{List, [], _∷_, _++_}
 use Prim.Native.Nat.{ℕ, zero, suc, _+_, _≤_, _<_}
 use native.Mathlib.Numerals.{add-one}
 use native.Mathlib.Omega.{arith}
-use borrow.Author.Tests.{eqb-true, eq-eqb}
+use borrow.Author.Tests.{eqb-true, eqb-false, eq-eqb, ne-eqb}
 use lib.Dec.{eqb, eqb·zero-suc, eqb·suc-zero, eqb·suc-suc}
 use lib.ListN.{length, take, drop, getD, take-append-drop, drop-of-length-le}
 use lib.Seq.{drop-cons}
@@ -15,7 +15,7 @@ use Rattle.text.specs.Choice.{pick, both, either}
 use Rattle.text.proofs.ChoiceLaws.{bool, both-true, either-false}
 use Rattle.state.specs.declared.stashes.Found.{Found}
 use Rattle.state.specs.declared.stashes.Found.the-variants.{At, Nothing}
-use Rattle.state.specs.Stashes.{Stash, same, shift, findIn, isHeld, heldTwice, sizeAt, blocksHeld, without}
+use Rattle.state.specs.Stashes.{Stash, same, shift, findIn, isHeld, heldTwice, holdsEmpty, sizeAt, blocksHeld, without}
 
 -- ---- hashes that are the same
 
@@ -126,6 +126,32 @@ twice-without (x ∷ xs) zero e = either-false (isHeld xs (x .hash)) (heldTwice 
 twice-without (x ∷ xs) (suc j) e =
     let p = either-false (isHeld xs (x .hash)) (heldTwice xs) e in
     rw (not-held-without xs j (x .hash) (p .0)) (twice-without xs j (p .1))
+
+-- ---- no stash of no blocks
+
+pub holds-empty-at : (xs : List Stash) → holdsEmpty xs ≡ false → (j : ℕ) → j < length xs → 0 < sizeAt xs j
+unfolding holdsEmpty sizeAt
+holds-empty-at [] e j l = absurd (omega arith)
+holds-empty-at (x ∷ xs) e zero l =
+    let n = eqb-false (x .blocks) 0 (either-false (eqb (x .blocks) 0) (holdsEmpty xs) e .0) in
+    omega arith
+holds-empty-at (x ∷ xs) e (suc j) l = holds-empty-at xs (either-false (eqb (x .blocks) 0) (holdsEmpty xs) e .1) j (omega arith)
+
+pub holds-empty-more : (xs : List Stash) (hash : List ℕ) (blocks : ℕ) → holdsEmpty xs ≡ false → 0 < blocks
+    → holdsEmpty (xs ++ (record { hash = hash; blocks = blocks } ∷ [])) ≡ false
+unfolding holdsEmpty
+holds-empty-more [] hash blocks e l = rw (ne-eqb blocks 0 (λ n. omega arith))
+holds-empty-more (x ∷ xs) hash blocks e l =
+    let p = either-false (eqb (x .blocks) 0) (holdsEmpty xs) e in
+    rw (p .0) (holds-empty-more xs hash blocks (p .1) l)
+
+pub holds-empty-without : (xs : List Stash) (j : ℕ) → holdsEmpty xs ≡ false → holdsEmpty (without xs j) ≡ false
+unfolding holdsEmpty without
+holds-empty-without [] j e = refl
+holds-empty-without (x ∷ xs) zero e = either-false (eqb (x .blocks) 0) (holdsEmpty xs) e .1
+holds-empty-without (x ∷ xs) (suc j) e =
+    let p = either-false (eqb (x .blocks) 0) (holdsEmpty xs) e in
+    rw (p .0) (holds-empty-without xs j (p .1))
 
 -- ---- blocks
 

@@ -1,4 +1,4 @@
--- Document 01, "The stash area" and "Calls": the stashes that are held, oldest first, each with its hash and its number of blocks.
+-- Document 01, "The stash area" and "Calls", and document 02, R-9: the stashes that are held, oldest first, each with its hash and its number of blocks.
 -- Assumes nothing: these are definitions.
 use Prim.Native.Nat.{ℕ, zero, suc, _+_, _-_, _*_, _≤_, min}
 use mathlib.Core.Path.{_≡_}
@@ -99,6 +99,19 @@ sizeAt (x ∷ xs) (suc j) = sizeAt xs j
 unfoldable pub blocksHeld : List Stash → ℕ
 blocksHeld [] = 0
 blocksHeld (x ∷ xs) = x .blocks + blocksHeld xs
+
+-- some stash has no blocks
+unfoldable pub holdsEmpty : List Stash → Bool
+holdsEmpty [] = false
+holdsEmpty (x ∷ xs) = either (eqb (x .blocks) 0) (holdsEmpty xs)
+
+-- the block of the stash area where entry j starts: stashes lie back to back from the front, oldest first
+abbrev pub stashStart : List Stash → ℕ → ℕ
+stashStart xs j = blocksHeld (take j xs)
+
+-- the blocks of the stashes that are younger than entry j
+abbrev pub younger : List Stash → ℕ → ℕ
+younger xs j = blocksHeld xs - (stashStart xs j + sizeAt xs j)
 
 -- without entry j
 unfoldable pub without : List Stash → ℕ → List Stash

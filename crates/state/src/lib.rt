@@ -5,6 +5,7 @@ use crate::limits::TABLE_BYTES;
 pub mod limits;
 pub mod refusals;
 pub mod stashes;
+pub mod stretches;
 pub mod sums;
 
 // A refusal's number, line, and the byte of the text at which the line is wrong, 0 where none is reported; number 0 is no refusal.
@@ -33,12 +34,17 @@ pub struct Progress {
     pub line: usize,
     pub at: usize,
     pub into: usize,
+    pub total: usize,
+    pub ready: usize,
+    pub stretches: usize,
     pub refusal: Refusal,
     pub lengths: Lengths,
 }
 
 // The stashes held, oldest first, a hash and a number of blocks each, and how many they are. The current line's number and where it
-// starts in the text. The bytes into a `new`. The refusal, if any. The lengths at opening.
+// starts in the text. The bytes into a `new`. The bytes taken since the opening, modulo 2^64. Whether the work area, for a `bsdiff` the result
+// area, is ready to be written: 0 says no, every other number yes. The stretches that a `free` has moved. The refusal, if any. The lengths at
+// opening.
 #[repr(C)]
 pub struct State {
     pub hashes: [u8; TABLE_BYTES],
@@ -47,6 +53,9 @@ pub struct State {
     pub line: usize,
     pub at: usize,
     pub into: usize,
+    pub total: usize,
+    pub ready: usize,
+    pub stretches: usize,
     pub refusal: Refusal,
     pub lengths: Lengths,
 }

@@ -6,7 +6,7 @@ ghost use lib.ListN.{length, take, drop};
 ghost use lib.Seq.{paste};
 ghost use Rattle.text.specs.Hash.{hashBytes};
 ghost use Rattle.state.specs.Limits.{mostStashes};
-ghost use Rattle.state.specs.Stashes.{tableAt, entryHash, entries, heldIn, same, findIn, isHeld, heldTwice, sizeAt, blocksHeld};
+ghost use Rattle.state.specs.Stashes.{tableAt, entryHash, entries, heldIn, same, findIn, isHeld, heldTwice, holdsEmpty, sizeAt, blocksHeld};
 ghost use Rattle.state.specs.Stashes.{holding, releasing};
 ghost use Rattle.state.specs.Sums.{bounded};
 use crate::limits::HASH_BYTES;
@@ -120,6 +120,21 @@ pub fn holds_twice(hashes: &[u8; TABLE_BYTES], count: usize) -> bool
     let mut j = 0;
     while j < n {
         if again_after(hashes, j, n) {
+            return true;
+        }
+        j += 1;
+    }
+    false
+}
+
+// Some stash has no blocks.
+pub fn holds_empty(sizes: &[usize; MOST_STASHES], count: usize) -> bool
+    ensures { λ r. ⌜ ((hashes : List ℕ) → r ≡ holdsEmpty (heldIn (tableAt hashes (now (sizes .entry)) count))) ⌝ }
+{
+    let n = held_count(count);
+    let mut j = 0;
+    while j < n {
+        if sizes[j] == 0 {
             return true;
         }
         j += 1;

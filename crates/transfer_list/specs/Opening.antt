@@ -88,7 +88,7 @@ unfoldable pub firstAt : HeaderRead → ℕ
 firstAt (Good h) = h .first
 firstAt (Bad line byte) = 0
 
--- an accepted opening's state: at the first command line, no stash, no refusal
+-- an accepted opening's state: at the first command line, no stash, nothing taken, no refusal
 unfoldable pub acceptedState : List ℕ → Lengths → State
 acceptedState s lengths = stateAt firstLine (firstAt (headerOf s)) noRefusal lengths
 

@@ -82,6 +82,9 @@ fn state_at(line: usize, at: usize, refusal: Refusal, lengths: Lengths) -> State
         line,
         at,
         into: 0,
+        total: 0,
+        ready: 0,
+        stretches: 0,
         refusal,
         lengths,
     }

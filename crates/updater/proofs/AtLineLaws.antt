@@ -1,10 +1,11 @@
--- The machine at a line that is not refused: whether it waits, what its step without a byte is, and bytes of new data in one go.
+-- The machine at a line that is not refused: whether it waits, what its step without a byte is and whether a stop follows it, and bytes of new
+-- data in one go.
 -- Assumes nothing.
-use mathlib.Core.Path.{_≡_, refl, _∙_}
+use mathlib.Core.Path.{_≡_, refl, ap, _∙_}
 use mathlib.Core.Bool.{true, false}
 use mathlib.Core.List.{List, [], _∷_}
-use Prim.Native.Nat.{ℕ, suc, _+_, _-_, _≤_, _<_}
-use native.Mathlib.Nat.{add-zero}
+use Prim.Native.Nat.{ℕ, suc, _+_, _-_, _%_, _^_, _≤_, _<_}
+use native.Mathlib.Nat.{add-zero, mod-lt, mod-eq-of-lt, mod-add-mod}
 use native.Mathlib.Omega.{arith}
 use borrow.Author.Tests.{lt-ltb, le-ltb, lt-leb, eq-eqb, ne-eqb}
 use lib.ListN.{length}
@@ -15,12 +16,16 @@ use Rattle.rules.specs.declared.Terms.{Terms}
 use Rattle.machine.proofs.LoopLaws.{puts, Eats}
 use Rattle.updater.specs.Areas.{withImage}
 use Rattle.updater.specs.Bytes.{putBytes}
-use Rattle.updater.specs.Steps.{Config, configOf, furtherInto, after}
+use Rattle.updater.specs.Steps.{Config, configOf, furtherInto, stopsAfter, stepAt, after}
 use Rattle.updater.specs.Run.{currentLine, currentCommand, refusalHere, faultHere, refusedAt, quietStep, newBlocks, newBytes, putByte}
-use Rattle.updater.specs.Run.{isStopped, needsByte, machine}
+use Rattle.updater.specs.Run.{isStopped, needsByte, haltsAt, machine}
+use Rattle.updater.specs.declared.commands.StepEnd.{StepEnd}
 use Rattle.updater.proofs.FitLaws.{NotStopped}
 
--- what the current line does
+-- how the next step of the current line ends, and where it leads
+abbrev pub endHere : List ℕ → Config → StepEnd
+endHere s p = stepAt (currentLine s p) (commandOf leastBlocks (currentLine s p) .hash) (currentCommand leastBlocks s p) p .end
+
 abbrev pub stepHere : List ℕ → Config → Config
 stepHere s p = after (currentLine s p) (commandOf leastBlocks (currentLine s p) .hash) (currentCommand leastBlocks s p) p
 
@@ -53,6 +58,16 @@ module _ (s : List ℕ) (terms : Terms) (p : Config) (g : NotStopped s p) where
     unfolding quietStep
     step = rw (eq-eqb (refusalHere leastBlocks s terms p) none e)
 
+-- a stop follows by how the line's step ends, and none follows a refused line
+module _ (s : List ℕ) (terms : Terms) (p : Config) where
+  pub halts-here : refusalHere leastBlocks s terms p ≡ none → haltsAt leastBlocks s terms p ≡ stopsAfter (endHere s p)
+  unfolding haltsAt
+  halts-here e = rw (eq-eqb (refusalHere leastBlocks s terms p) none e)
+
+  pub halts-not : (refusalHere leastBlocks s terms p ≡ none → ⊥) → haltsAt leastBlocks s terms p ≡ false
+  unfolding haltsAt
+  halts-not n = rw (ne-eqb (refusalHere leastBlocks s terms p) none n)
+
 -- ---- bytes of a `new`
 
 -- the bytes xs go to the blocks' bytes, from the byte that is next
@@ -82,9 +97,11 @@ module _ (s : List ℕ) (terms : Terms) where
   )
 
   pub puts-new : (blocks xs : List ℕ) (p : Config) → newBlocks (currentLine s p) (currentCommand leastBlocks s p) ≡ blocks →
-      puts (machine leastBlocks s terms) xs p ≡ fed blocks xs p
+      p .state .total < 2 ^ 64 → puts (machine leastBlocks s terms) xs p ≡ fed blocks xs p
   unfolding puts fed putBytes putByte furtherInto
-  puts-new blocks [] p e = rw add-zero
-  puts-new blocks (x ∷ xs) p e =
+  puts-new blocks [] p e h = rw (add-zero (p .state .into), add-zero (p .state .total), mod-eq-of-lt h)
+  puts-new blocks (x ∷ xs) p e h =
       let n : p .state .into + 1 + length xs ≡ p .state .into + suc (length xs) = omega arith in
-      puts-new blocks xs (putByte leastBlocks s x p) e ∙ rw (e, n)
+      let t : ((p .state .total + 1) % 2 ^ 64 + length xs) % 2 ^ 64 ≡ (p .state .total + suc (length xs)) % 2 ^ 64 =
+      mod-add-mod (p .state .total + 1) (2 ^ 64) (length xs) ∙ ap (λ (i : ℕ). i % 2 ^ 64) (omega arith) in
+      puts-new blocks xs (putByte leastBlocks s x p) e (mod-lt (p .state .total + 1) (omega arith)) ∙ rw (e, n, t)

@@ -1,19 +1,20 @@
--- Laws of what a command does to the lent areas: each effect by its cases, that every area keeps its length, and the numbers that a
--- command can stop with.
+-- Laws of what a command does to the lent areas: filling by its cases, that every area keeps its length, and the numbers that a command can
+-- stop with.
 -- Assumes nothing.
 use mathlib.Core.Path.{_≡_, refl, sym, subst, _∙_}
 use mathlib.Core.Bool.{Bool, true, false}
 use mathlib.Core.Logic.{_⊎_, inl, inr, ⊎-elim}
 use mathlib.Core.List.{List}
-use Prim.Native.Nat.{ℕ, _+_, _-_, _*_, _/_}
+use Prim.Native.Nat.{ℕ, _+_, _*_, _/_, _≤_}
 use native.Mathlib.Omega.{arith}
+use lib.Dec.{eqb}
 use lib.ListN.{length, take, length-take}
 use Rattle.text.proofs.ChoiceLaws.{picks}
 use Rattle.ranges.specs.Walk.{blocksAt, AllBelow}
 use Rattle.ranges.specs.declared.RangeSet.{RangeSet}
 use Rattle.state.specs.Limits.{blockBytes}
 use Rattle.state.specs.Refusals.{none, hashDiffers, patchMalformed}
-use Rattle.state.specs.Stashes.{Stash, findIn, sizeAt, blocksHeld}
+use Rattle.state.specs.Stashes.{Stash, findIn, sizeAt, blocksHeld, stashStart, younger}
 use Rattle.state.specs.declared.stashes.Found.{Found}
 use Rattle.state.specs.declared.stashes.Found.the-variants.{At, Nothing}
 use Rattle.state.proofs.StashLaws.{blocks-held-before}
@@ -24,170 +25,76 @@ use Rattle.command.specs.Patching.{patchingOf, resultHash}
 use Rattle.command.specs.declared.patching.Patching.{Patching}
 use Rattle.patch.specs.Patch.{isPatch, patchedBy}
 use Rattle.patch.proofs.PatchLaws.{patched-length}
-use Rattle.updater.specs.Areas.{Areas, withImage, withStash, withWork, withResult, SameLengths}
 use Rattle.copy.specs.Over.{over}
 use Rattle.copy.proofs.OverLaws.{length-over}
-use Rattle.updater.specs.Bytes.{zeroed, written, movedDown}
-use Rattle.updater.specs.Source.{stashStart, supplied, together, hashesTo, blocksHashTo, closedUp}
-use Rattle.updater.specs.Effect.{Effect, effectOf, done, InRun, verified, zeroEffect, targetWritten, moveEffect, stashWritten}
-use Rattle.updater.specs.Effect.{patchOf, resultMade, resultEffect, patchEffect, bsdiffEffect, stashEffect, closedFound, freeEffect, unfinishedEffect}
-use Rattle.updater.specs.Effect.{isFinished, effect}
-use Rattle.updater.specs.Runnable.{Keeps, InImage, MoveRuns, PatchRuns, BsdiffRuns, StashRuns, Runnable}
+use Rattle.updater.specs.Areas.{Areas, withImage, withStash, withWork, withResult, SameLengths}
+use Rattle.updater.specs.Bytes.{written}
+use Rattle.updater.specs.Source.{supplied, together, hashesTo, closedUp}
+use Rattle.updater.specs.Effect.{Effect, effectOf, InRun, hashRefusal, moveFilled, stashFilled, patchOf, resultMade, resultFilled, patchFilled, bsdiffFilled, filled}
+use Rattle.updater.specs.Effect.{zerosWritten, writtenFrom, closedFound, isFinished, filledWritten, unfinishedEffect, effect}
+use Rattle.updater.specs.Runnable.{Keeps, InImage, MoveRuns, BsdiffRuns, StashRuns, Runnable}
 use Rattle.updater.proofs.ByteLaws.{length-zeroed, length-written, length-moved-down}
 use Rattle.updater.proofs.SourceLaws.{length-supplied, length-together}
 
--- ---- each effect by its cases
+-- ---- filling by its cases
 
 module _ (l : List ℕ) (xs : List Stash) (hash : List ℕ) (a : Areas) where
-  -- `zero`, `erase`
-  pub zero-done : (set : RangeSet) {image : List ℕ} → image ≡ zeroed (blocksAt l (set .at)) (a .image) →
-      effectOf (withImage a image) none ≡ zeroEffect l set a
-  unfolding zeroEffect
-  zero-done set e = rw e
+  -- `move`, `bsdiff`: with the work area that the source leaves, and what its first n blocks hash to
+  module _ (n : ℕ) (source : Source) {work : List ℕ} {good : Bool} (e : work ≡ together l (a .image) (a .stash) xs source (a .work))
+      (is : good ≡ hashesTo work n hash) where
+    pub move-good : good ≡ true → effectOf (withWork a work) none ≡ moveFilled l xs hash n source a
+    unfolding moveFilled
+    move-good h = rw (← e, ← is, h)
 
-  -- `move`, with the work area that its source leaves
-  module _ (target : RangeSet) (n : ℕ) (source : Source) {work : List ℕ}
-      (e : work ≡ together l (a .image) (a .stash) xs source (a .work)) where
-    pub move-done : {image : List ℕ} → hashesTo work n hash ≡ true →
-        image ≡ written (blocksAt l (target .at)) (take (blockBytes * n) work) (a .image) →
-        effectOf (withImage (withWork a work) image) none ≡ moveEffect l xs hash target n source a
-    unfolding moveEffect
-    move-done h f = rw (f, ← e, h)
+    pub move-differs : good ≡ false → effectOf (withWork a work) hashDiffers ≡ moveFilled l xs hash n source a
+    unfolding moveFilled
+    move-differs h = rw (← e, ← is, h)
 
-    pub move-differs : hashesTo work n hash ≡ false →
-        effectOf (withWork a work) hashDiffers ≡ moveEffect l xs hash target n source a
-    unfolding moveEffect
-    move-differs h = rw (← e, h)
+    pub bsdiff-differs : (target : RangeSet) → good ≡ false → effectOf (withWork a work) hashDiffers ≡ bsdiffFilled l xs hash target n source a
+    unfolding bsdiffFilled
+    bsdiff-differs target h = rw (← e, ← is, h)
 
-    -- `bsdiff` likewise
-    pub bsdiff-differs : hashesTo work n hash ≡ false → effectOf (withWork a work) hashDiffers ≡ bsdiffEffect l xs hash target n source a
-    unfolding bsdiffEffect
-    bsdiff-differs h = rw (← e, h)
+    pub bsdiff-goes : (target : RangeSet) {patching : Patching} {x : Effect} → good ≡ true → patching ≡ patchingOf l →
+        x ≡ patchFilled l patching target n (withWork a work) → x ≡ bsdiffFilled l xs hash target n source a
+    unfolding bsdiffFilled
+    bsdiff-goes target h p f = rw (← e, ← is, h, ← p) f
 
-    pub bsdiff-goes : {patching : Patching} {x : Effect} → hashesTo work n hash ≡ true → patching ≡ patchingOf l →
-        x ≡ patchEffect l patching target n (withWork a work) → x ≡ bsdiffEffect l xs hash target n source a
-    unfolding bsdiffEffect
-    bsdiff-goes h p f = rw (← e, h, ← p) f
+-- `stash`: with the work area that S leaves
+module _ (l hash : List ℕ) (a : Areas) (set : RangeSet) {work : List ℕ} {good : Bool}
+    (e : work ≡ supplied l (a .image) (set .at) (set .blocks) (a .work)) (is : good ≡ hashesTo work (set .blocks) hash) where
+  pub stash-good : good ≡ true → effectOf (withWork a work) none ≡ stashFilled l hash set a
+  unfolding stashFilled
+  stash-good h = rw (← e, ← is, h)
 
-  -- `stash`, with the work area that S leaves
-  module _ (set : RangeSet) {work : List ℕ} (e : work ≡ supplied l (a .image) (set .at) (set .blocks) (a .work)) where
-    pub stash-done : {stash : List ℕ} → hashesTo work (set .blocks) hash ≡ true →
-        stash ≡ over (a .stash) (blockBytes * blocksHeld xs) (take (blockBytes * set .blocks) work) →
-        effectOf (withStash (withWork a work) stash) none ≡ stashEffect l xs hash set a
-    unfolding stashEffect
-    stash-done h f = rw (f, ← e, h)
-
-    pub stash-differs : hashesTo work (set .blocks) hash ≡ false →
-        effectOf (withWork a work) hashDiffers ≡ stashEffect l xs hash set a
-    unfolding stashEffect
-    stash-differs h = rw (← e, h)
-
-  -- `free`
-  pub free-done : {stash : List ℕ} → stash ≡ closedFound xs (a .stash) (findIn xs hash) →
-      effectOf (withStash a stash) none ≡ freeEffect xs hash a
-  unfolding freeEffect
-  free-done e = rw e
+  pub stash-differs : good ≡ false → effectOf (withWork a work) hashDiffers ≡ stashFilled l hash set a
+  unfolding stashFilled
+  stash-differs h = rw (← e, ← is, h)
 
 -- a patch, with the source in the work area
 module _ (l : List ℕ) (patching : Patching) (target : RangeSet) (n : ℕ) (a : Areas) {good : Bool}
     (is : good ≡ isPatch (patchOf patching a) (blockBytes * target .blocks)) where
-  pub patch-malformed : good ≡ false → effectOf a patchMalformed ≡ patchEffect l patching target n a
-  unfolding patchEffect
+  pub patch-malformed : good ≡ false → effectOf a patchMalformed ≡ patchFilled l patching target n a
+  unfolding patchFilled
   patch-malformed g = rw (← is, g)
 
-  pub patch-good : good ≡ true → {x : Effect} → x ≡ resultEffect l patching target (resultMade patching n a) →
-      x ≡ patchEffect l patching target n a
-  unfolding patchEffect
+  pub patch-good : good ≡ true → {x : Effect} → x ≡ resultFilled l patching target (resultMade patching n a) →
+      x ≡ patchFilled l patching target n a
+  unfolding patchFilled
   patch-good g h = rw (← is, g) h
 
 -- .. and with its result in the result area
 module _ (l : List ℕ) (patching : Patching) (target : RangeSet) (a : Areas) {same : Bool}
     (is : same ≡ hashesTo (a .result) (target .blocks) (resultHash l (patching .hashes))) where
-  pub result-differs : same ≡ false → effectOf a hashDiffers ≡ resultEffect l patching target a
-  unfolding resultEffect
+  pub result-good : same ≡ true → effectOf a none ≡ resultFilled l patching target a
+  unfolding resultFilled
+  result-good h = rw (← is, h)
+
+  pub result-differs : same ≡ false → effectOf a hashDiffers ≡ resultFilled l patching target a
+  unfolding resultFilled
   result-differs h = rw (← is, h)
 
-  pub result-done : same ≡ true → {image : List ℕ} →
-      image ≡ written (blocksAt l (target .at)) (take (blockBytes * target .blocks) (a .result)) (a .image) →
-      effectOf (withImage a image) none ≡ resultEffect l patching target a
-  unfolding resultEffect
-  result-done h f = rw (f, ← is, h)
+-- ---- what each command rests on
 
-module _ (xs : List Stash) (stash : List ℕ) {f : Found} where
-  -- a stash of `size` blocks that starts at block `to`, of `end` blocks in all
-  pub closed-at : {j to size end : ℕ} → f ≡ At j → to ≡ stashStart xs j → size ≡ sizeAt xs j → end ≡ blocksHeld xs →
-      movedDown stash (blockBytes * to) (blockBytes * (to + size)) (blockBytes * (end - (to + size))) ≡ closedFound xs stash f
-  unfolding closedUp
-  closed-at d e g h = rw (d, e, g, h)
-
-  pub closed-nothing : f ≡ Nothing → stash ≡ closedFound xs stash f
-  closed-nothing d = rw d
-
--- ---- the effect of a command is that of its kind
-
-module _ (l : List ℕ) (xs : List Stash) (hash : List ℕ) (a : Areas) where
-  -- one that is finished changes nothing
-  effect-finished : (c : Command) → isFinished l hash c (a .image) ≡ true → effectOf a none ≡ effect l xs hash c a
-  unfolding effect
-  effect-finished c e = rw e
-
-  effect-unfinished : (c : Command) → isFinished l hash c (a .image) ≡ false → {x : Effect} → x ≡ unfinishedEffect l xs hash c a →
-      x ≡ effect l xs hash c a
-  unfolding effect
-  effect-unfinished c e f = rw e f
-
-  -- by what the blocks of the target hash to
-  module _ (target : RangeSet) (n : ℕ) (source : Source) {found : Bool} where
-    module _ (is : found ≡ blocksHashTo (blocksAt l (target .at)) (a .image) hash) where
-      pub move-finished : found ≡ true → effectOf a none ≡ effect l xs hash (command.Move target n source) a
-      unfolding isFinished
-      move-finished e = effect-finished (command.Move target n source) (sym is ∙ e)
-
-      pub move-unfinished : found ≡ false → {x : Effect} → x ≡ moveEffect l xs hash target n source a →
-          x ≡ effect l xs hash (command.Move target n source) a
-      unfolding isFinished unfinishedEffect
-      move-unfinished e f = effect-unfinished (command.Move target n source) (sym is ∙ e) f
-
-    module _ (is : found ≡ blocksHashTo (blocksAt l (target .at)) (a .image) (resultHash l (patchingOf l .hashes))) where
-      pub bsdiff-finished : found ≡ true → effectOf a none ≡ effect l xs hash (command.Bsdiff target n source) a
-      unfolding isFinished
-      bsdiff-finished e = effect-finished (command.Bsdiff target n source) (sym is ∙ e)
-
-      pub bsdiff-unfinished : found ≡ false → {x : Effect} → x ≡ bsdiffEffect l xs hash target n source a →
-          x ≡ effect l xs hash (command.Bsdiff target n source) a
-      unfolding isFinished unfinishedEffect
-      bsdiff-unfinished e f = effect-unfinished (command.Bsdiff target n source) (sym is ∙ e) f
-
-module _ (l : List ℕ) (xs : List Stash) (hash : List ℕ) (a : Areas) {c : Command} where
-  pub effect-zero : {set : RangeSet} → c ≡ command.Zero set → effect l xs hash c a ≡ zeroEffect l set a
-  unfolding effect isFinished unfinishedEffect
-  effect-zero e = rw e
-
-  pub effect-erase : {set : RangeSet} → c ≡ command.Erase set → effect l xs hash c a ≡ zeroEffect l set a
-  unfolding effect isFinished unfinishedEffect
-  effect-erase e = rw e
-
-  pub effect-new : {set : RangeSet} → c ≡ command.New set → effect l xs hash c a ≡ effectOf a none
-  unfolding effect isFinished unfinishedEffect
-  effect-new e = rw e
-
-  pub effect-stash : {set : RangeSet} → c ≡ command.Stash set → effect l xs hash c a ≡ stashEffect l xs hash set a
-  unfolding effect isFinished unfinishedEffect
-  effect-stash e = rw e
-
-  pub effect-free : c ≡ command.Free → effect l xs hash c a ≡ freeEffect xs hash a
-  unfolding effect isFinished unfinishedEffect
-  effect-free e = rw e
-
-  pub effect-unsupported : c ≡ command.Unsupported → effect l xs hash c a ≡ effectOf a none
-  unfolding effect isFinished unfinishedEffect
-  effect-unsupported e = rw e
-
-  pub effect-bad : {p : ℕ} → c ≡ command.Bad p → effect l xs hash c a ≡ effectOf a none
-  unfolding effect isFinished unfinishedEffect
-  effect-bad e = rw e
-
--- what each rests on
 module _ (l : List ℕ) (xs : List Stash) (a : Areas) {c : Command} where
   pub runs-zero : {set : RangeSet} → c ≡ command.Zero set → Runnable l xs a c → InImage l (a .image) set
   unfolding Runnable
@@ -213,18 +120,13 @@ module _ (l : List ℕ) (xs : List Stash) (a : Areas) {c : Command} where
 
 -- ---- every area keeps its length
 
--- a patch runs over a work area as long
-pub patch-over : {l image work work' result patch : List ℕ} {patching : Patching} {target : RangeSet} {n : ℕ} →
-    PatchRuns l image work result patch patching target n → length work' ≡ length work → PatchRuns l image work' result patch patching target n
-patch-over h e = record { goal = h .goal; room = omega (arith, h .room); holds = h .holds; within = h .within }
-
 pub lengths-refl : (a : Areas) → SameLengths a a
 lengths-refl a = record { image = refl; stash = refl; work = refl; result = refl; patch = refl }
 
 image-lengths : (a : Areas) {image : List ℕ} → length image ≡ length (a .image) → SameLengths a (withImage a image)
 image-lengths a e = record { image = e; stash = refl; work = refl; result = refl; patch = refl }
 
-stash-area-lengths : (a : Areas) {stash : List ℕ} → length stash ≡ length (a .stash) → SameLengths a (withStash a stash)
+pub stash-area-lengths : (a : Areas) {stash : List ℕ} → length stash ≡ length (a .stash) → SameLengths a (withStash a stash)
 stash-area-lengths a e = record { image = refl; stash = e; work = refl; result = refl; patch = refl }
 
 work-lengths : (a : Areas) {work : List ℕ} → length work ≡ length (a .work) → SameLengths a (withWork a work)
@@ -243,100 +145,108 @@ lengths-then e f =
       patch = f .patch ∙ e .patch;
     }
 
-verified-lengths : (n : ℕ) (hash : List ℕ) (go : Areas → Effect) {a b : Areas} → SameLengths b (go a .areas) → SameLengths b a →
-    SameLengths b (verified n hash go a .areas)
-verified-lengths n hash go {a} {b} f g = picks (λ (e : Effect). SameLengths b (e .areas)) (hashesTo (a .work) n hash) _ _ (λ h. f) (λ h. g)
-
 -- a patch that is applied, with the source in the work area
-module _ (l : List ℕ) (a : Areas) (patching : Patching) (target : RangeSet) (n : ℕ)
-    (h : PatchRuns l (a .image) (a .work) (a .result) (a .patch) patching target n) where
-  made-length : isPatch (patchOf patching a) (blockBytes * target .blocks) ≡ true →
+module _ (l : List ℕ) (a : Areas) (patching : Patching) (target : RangeSet) (n : ℕ) where
+  made-length : target .blocks ≤ length (a .result) / blockBytes → isPatch (patchOf patching a) (blockBytes * target .blocks) ≡ true →
       length (resultMade patching n a .result) ≡ length (a .result)
-  made-length g =
+  made-length h g =
       let bytes = patchedBy (patchOf patching a) (take (blockBytes * n) (a .work)) in
       let m : length bytes ≡ blockBytes * target .blocks = patched-length (patchOf patching a) (take (blockBytes * n) (a .work)) _ g in
-      length-over (a .result) 0 bytes (omega (arith, m, h .holds))
+      length-over (a .result) 0 bytes (omega arith)
 
-  result-effect-lengths : (b : Areas) → SameLengths a b → SameLengths a (resultEffect l patching target b .areas)
-  unfolding resultEffect
-  result-effect-lengths b e =
-      let t : length (take (blockBytes * target .blocks) (b .result)) ≡ blockBytes * target .blocks =
-      simp length-take (omega (arith, h .holds, e .result)) in
-      let below = subst (λ (k : ℕ). AllBelow (k / blockBytes) (blocksAt l (target .at))) (sym (e .image)) (h .goal .below) in
-      let g = length-written (blocksAt l (target .at)) (take (blockBytes * target .blocks) (b .result)) (b .image) below
-      (omega (arith, h .goal .size)) in
-      picks (λ (x : Effect). SameLengths a (x .areas)) (hashesTo (b .result) (target .blocks) (resultHash l (patching .hashes))) _ _
-      (λ q. lengths-then e (image-lengths b g))
-      (λ q. e)
-
-  patch-lengths : SameLengths a (patchEffect l patching target n a .areas)
-  unfolding patchEffect
-  patch-lengths =
+  patch-lengths : target .blocks ≤ length (a .result) / blockBytes → SameLengths a (patchFilled l patching target n a .areas)
+  unfolding patchFilled resultFilled
+  patch-lengths h =
       picks (λ (x : Effect). SameLengths a (x .areas)) (isPatch (patchOf patching a) (blockBytes * target .blocks)) _ _
-      (λ g. result-effect-lengths (resultMade patching n a) (result-lengths a (made-length g)))
+      (λ g. result-lengths a (made-length h g))
       (λ g. lengths-refl a)
 
-module _ (l : List ℕ) (xs : List Stash) (hash : List ℕ) (a : Areas) where
-  zero-lengths : (set : RangeSet) → InImage l (a .image) set → SameLengths a (zeroEffect l set a .areas)
-  unfolding zeroEffect
-  zero-lengths set h = image-lengths a (length-zeroed (blocksAt l (set .at)) (a .image) (h .below))
+pub zeros-lengths : (l : List ℕ) (a : Areas) (set : RangeSet) → InImage l (a .image) set → SameLengths a (zerosWritten l set a)
+zeros-lengths l a set h = image-lengths a (length-zeroed (blocksAt l (set .at)) (a .image) (h .below))
 
-  move-lengths : (target : RangeSet) (n : ℕ) (source : Source) → Keeps xs (a .stash) → MoveRuns l xs (a .image) (a .work) target n source →
-      SameLengths a (moveEffect l xs hash target n source a .areas)
-  unfolding moveEffect
-  move-lengths target n source k h =
+-- filling
+module _ (l : List ℕ) (xs : List Stash) (hash : List ℕ) (a : Areas) where
+  bsdiff-lengths : (target : RangeSet) (n : ℕ) (source : Source) → Keeps xs (a .stash) →
+      BsdiffRuns l xs a target n source → SameLengths a (bsdiffFilled l xs hash target n source a .areas)
+  unfolding bsdiffFilled
+  bsdiff-lengths target n source k h =
       let work = together l (a .image) (a .stash) xs source (a .work) in
       let w : length work ≡ length (a .work) = length-together l xs a source k (h .from) in
-      let t : length (take (blockBytes * n) work) ≡ blockBytes * n = simp length-take (omega (arith, h .room)) in
-      let g = length-written (blocksAt l (target .at)) (take (blockBytes * n) work) (a .image) (h .goal .below) (omega (arith, h .goal .size, h .size)) in
-      verified-lengths n hash (done (targetWritten l target n))
-      (lengths-then (work-lengths a w) (image-lengths (withWork a work) g))
-      (work-lengths a w)
+      picks (λ (x : Effect). SameLengths a (x .areas)) (hashesTo work n hash) _ _
+      (λ g. lengths-then (work-lengths a w) (patch-lengths l (withWork a work) (patchingOf l) target n (h .patched .holds)))
+      (λ g. work-lengths a w)
 
-  stash-lengths : (set : RangeSet) → StashRuns l xs (a .image) (a .stash) (a .work) set → SameLengths a (stashEffect l xs hash set a .areas)
-  unfolding stashEffect
-  stash-lengths set h =
-      let work = supplied l (a .image) (set .at) (set .blocks) (a .work) in
-      let w : length work ≡ length (a .work) = length-supplied l a set (h .from) (h .room) in
-      let t : length (take (blockBytes * set .blocks) work) ≡ blockBytes * set .blocks = simp length-take (omega (arith, h .room)) in
-      let g = length-over (a .stash) (blockBytes * blocksHeld xs) (take (blockBytes * set .blocks) work) (omega (arith, h .fits)) in
-      verified-lengths (set .blocks) hash (done (stashWritten xs (set .blocks)))
-      (lengths-then (work-lengths a w) (stash-area-lengths (withWork a work) g))
-      (work-lengths a w)
+  pub filled-lengths : (c : Command) → Keeps xs (a .stash) → Runnable l xs a c → SameLengths a (filled l xs hash c a .areas)
+  unfolding filled moveFilled stashFilled Runnable
+  filled-lengths (command.Zero set) k h = lengths-refl a
+  filled-lengths (command.Erase set) k h = lengths-refl a
+  filled-lengths (command.New set) k h = lengths-refl a
+  filled-lengths (command.Move target n source) k h = work-lengths a (length-together l xs a source k (h .from))
+  filled-lengths (command.Bsdiff target n source) k h = bsdiff-lengths target n source k h
+  filled-lengths (command.Stash set) k h = work-lengths a (length-supplied l a set (h .from) (h .room))
+  filled-lengths command.Free k h = lengths-refl a
+  filled-lengths command.Unsupported k h = lengths-refl a
+  filled-lengths (command.Bad p) k h = lengths-refl a
+
+-- writing, from areas that are as long as those that the command rests on
+module _ (l : List ℕ) (xs : List Stash) (a b : Areas) (e : SameLengths a b) where
+  -- the first n blocks of an area over a target of as many
+  target-length : (target : RangeSet) (n : ℕ) (from : List ℕ) → InImage l (a .image) target → target .blocks ≡ n →
+      n ≤ length from / blockBytes → length (written (blocksAt l (target .at)) (take (blockBytes * n) from) (b .image)) ≡ length (b .image)
+  target-length target n from h s r =
+      let t : length (take (blockBytes * n) from) ≡ blockBytes * n = simp length-take (omega arith) in
+      let below = subst (λ (k : ℕ). AllBelow (k / blockBytes) (blocksAt l (target .at))) (sym (e .image)) (h .below) in
+      length-written (blocksAt l (target .at)) (take (blockBytes * n) from) (b .image) below (omega (arith, h .size))
+
+  stash-length : (set : RangeSet) → StashRuns l xs (a .image) (a .stash) (a .work) set →
+      length (over (b .stash) (blockBytes * blocksHeld xs) (take (blockBytes * set .blocks) (b .work))) ≡ length (b .stash)
+  stash-length set h =
+      let t : length (take (blockBytes * set .blocks) (b .work)) ≡ blockBytes * set .blocks =
+      simp length-take (omega (arith, h .room, e .work)) in
+      length-over (b .stash) (blockBytes * blocksHeld xs) (take (blockBytes * set .blocks) (b .work)) (omega (arith, h .fits, e .stash))
+
+  pub written-from-lengths : (c : Command) → Runnable l xs a c → SameLengths a (writtenFrom l xs c b)
+  unfolding writtenFrom Runnable
+  written-from-lengths (command.Zero set) h = e
+  written-from-lengths (command.Erase set) h = e
+  written-from-lengths (command.New set) h = e
+  written-from-lengths (command.Move target n source) h =
+      lengths-then e (image-lengths b (target-length target n (b .work) (h .goal) (h .size) (rw (e .work) (h .room))))
+  written-from-lengths (command.Bsdiff target n source) h =
+      lengths-then e
+      (image-lengths b (target-length target (target .blocks) (b .result) (h .patched .goal) refl (rw (e .result) (h .patched .holds))))
+  written-from-lengths (command.Stash set) h = lengths-then e (stash-area-lengths b (stash-length set h))
+  written-from-lengths command.Free h = e
+  written-from-lengths command.Unsupported h = e
+  written-from-lengths (command.Bad p) h = e
+
+-- a whole line
+module _ (l : List ℕ) (xs : List Stash) (hash : List ℕ) (a : Areas) where
+  filled-written-lengths : (c : Command) → Keeps xs (a .stash) → Runnable l xs a c → SameLengths a (filledWritten l xs hash c a .areas)
+  unfolding filledWritten
+  filled-written-lengths c k h =
+      let f = filled-lengths l xs hash a c k h in
+      picks (λ (x : Effect). SameLengths a (x .areas)) (eqb (filled l xs hash c a .refusal) none) _ _
+      (λ g. written-from-lengths l xs a (filled l xs hash c a .areas) f c h)
+      (λ g. f)
 
   closed-length : (f : Found) → Keeps xs (a .stash) → length (closedFound xs (a .stash) f) ≡ length (a .stash)
   unfolding closedUp
   closed-length (At j) k =
-      length-moved-down (a .stash) (blockBytes * stashStart xs j) (blockBytes * (stashStart xs j + sizeAt xs j))
-      (blockBytes * (blocksHeld xs - (stashStart xs j + sizeAt xs j)))
+      length-moved-down (a .stash) (blockBytes * stashStart xs j) (blockBytes * (stashStart xs j + sizeAt xs j)) (blockBytes * younger xs j)
       (omega arith)
       (omega (arith, blocks-held-before xs j, k .room))
   closed-length Nothing k = refl
 
-  free-lengths : Keeps xs (a .stash) → SameLengths a (freeEffect xs hash a .areas)
-  unfolding freeEffect
-  free-lengths k = stash-area-lengths a (closed-length (findIn xs hash) k)
-
-  -- `bsdiff`: its patch runs over the work area that the source leaves
-  bsdiff-lengths : (target : RangeSet) (n : ℕ) (source : Source) → Keeps xs (a .stash) →
-      BsdiffRuns l xs a target n source → SameLengths a (bsdiffEffect l xs hash target n source a .areas)
-  unfolding bsdiffEffect
-  bsdiff-lengths target n source k h =
-      let work = together l (a .image) (a .stash) xs source (a .work) in
-      let w : length work ≡ length (a .work) = length-together l xs a source k (h .from) in
-      verified-lengths n hash (patchEffect l (patchingOf l) target n)
-      (lengths-then (work-lengths a w) (patch-lengths l (withWork a work) (patchingOf l) target n (patch-over (h .patched) w)))
-      (work-lengths a w)
-
   unfinished-lengths : (c : Command) → Keeps xs (a .stash) → Runnable l xs a c → SameLengths a (unfinishedEffect l xs hash c a .areas)
   unfolding unfinishedEffect Runnable
-  unfinished-lengths (command.Zero set) k h = zero-lengths set h
-  unfinished-lengths (command.Erase set) k h = zero-lengths set h
+  unfinished-lengths (command.Zero set) k h = zeros-lengths l a set h
+  unfinished-lengths (command.Erase set) k h = zeros-lengths l a set h
   unfinished-lengths (command.New set) k h = lengths-refl a
-  unfinished-lengths (command.Move target n source) k h = move-lengths target n source k h
-  unfinished-lengths (command.Bsdiff target n source) k h = bsdiff-lengths target n source k h
-  unfinished-lengths (command.Stash set) k h = stash-lengths set h
-  unfinished-lengths command.Free k h = free-lengths k
+  unfinished-lengths (command.Move target n source) k h = filled-written-lengths (command.Move target n source) k h
+  unfinished-lengths (command.Bsdiff target n source) k h = filled-written-lengths (command.Bsdiff target n source) k h
+  unfinished-lengths (command.Stash set) k h = filled-written-lengths (command.Stash set) k h
+  unfinished-lengths command.Free k h = stash-area-lengths a (closed-length (findIn xs hash) k)
   unfinished-lengths command.Unsupported k h = lengths-refl a
   unfinished-lengths (command.Bad p) k h = lengths-refl a
 
@@ -357,35 +267,55 @@ in-run-some s e =
     (λ h. let z : _≡_ {A = ℕ} patchMalformed none = sym h ∙ e in omega arith)
     s
 
-abbrev Stops : Effect → Type 0
-Stops e = (e .refusal ≡ none) ⊎ InRun (e .refusal)
+abbrev Stops : ℕ → Type 0
+Stops number = (number ≡ none) ⊎ InRun number
 
-verified-stops : (n : ℕ) (hash : List ℕ) (go : Areas → Effect) (a : Areas) → Stops (go a) → Stops (verified n hash go a)
-verified-stops n hash go a s = picks Stops (hashesTo (a .work) n hash) _ _ (λ h. s) (λ h. inr (inl refl))
+hash-stops : (good : Bool) → Stops (hashRefusal good)
+hash-stops true = inl refl
+hash-stops false = inr (inl refl)
 
-patch-stops : (l : List ℕ) (patching : Patching) (target : RangeSet) (n : ℕ) (a : Areas) → Stops (patchEffect l patching target n a)
-unfolding patchEffect resultEffect
+patch-stops : (l : List ℕ) (patching : Patching) (target : RangeSet) (n : ℕ) (a : Areas) → Stops (patchFilled l patching target n a .refusal)
+unfolding patchFilled resultFilled
 patch-stops l patching target n a =
-    picks Stops (isPatch (patchOf patching a) (blockBytes * target .blocks)) _ _
-    (λ g. picks Stops (hashesTo (resultMade patching n a .result) (target .blocks) (resultHash l (patching .hashes))) _ _
-    (λ h. inl refl) (λ h. inr (inl refl)))
+    picks (λ (x : Effect). Stops (x .refusal)) (isPatch (patchOf patching a) (blockBytes * target .blocks)) _ _
+    (λ g. hash-stops (hashesTo (resultMade patching n a .result) (target .blocks) (resultHash l (patching .hashes))))
     (λ g. inr (inr refl))
 
-unfinished-stops : (l : List ℕ) (xs : List Stash) (hash : List ℕ) (c : Command) (a : Areas) → Stops (unfinishedEffect l xs hash c a)
-unfolding unfinishedEffect zeroEffect moveEffect bsdiffEffect stashEffect freeEffect
-unfinished-stops l xs hash (command.Zero set) a = inl refl
-unfinished-stops l xs hash (command.Erase set) a = inl refl
-unfinished-stops l xs hash (command.New set) a = inl refl
-unfinished-stops l xs hash (command.Move target n source) a = verified-stops n hash (done (targetWritten l target n)) _ (inl refl)
-unfinished-stops l xs hash (command.Bsdiff target n source) a =
-    verified-stops n hash (patchEffect l (patchingOf l) target n) _ (patch-stops l (patchingOf l) target n _)
-unfinished-stops l xs hash (command.Stash set) a = verified-stops (set .blocks) hash (done (stashWritten xs (set .blocks))) _ (inl refl)
-unfinished-stops l xs hash command.Free a = inl refl
-unfinished-stops l xs hash command.Unsupported a = inl refl
-unfinished-stops l xs hash (command.Bad p) a = inl refl
+module _ (l : List ℕ) (xs : List Stash) (hash : List ℕ) where
+  pub filled-refusal : (c : Command) (a : Areas) → (filled l xs hash c a .refusal ≡ none) ⊎ InRun (filled l xs hash c a .refusal)
+  unfolding filled moveFilled stashFilled bsdiffFilled
+  filled-refusal (command.Zero set) a = inl refl
+  filled-refusal (command.Erase set) a = inl refl
+  filled-refusal (command.New set) a = inl refl
+  filled-refusal (command.Move target n source) a = hash-stops (hashesTo (together l (a .image) (a .stash) xs source (a .work)) n hash)
+  filled-refusal (command.Bsdiff target n source) a =
+      let work = together l (a .image) (a .stash) xs source (a .work) in
+      picks (λ (x : Effect). Stops (x .refusal)) (hashesTo work n hash) _ _
+      (λ g. patch-stops l (patchingOf l) target n (withWork a work))
+      (λ g. inr (inl refl))
+  filled-refusal (command.Stash set) a = hash-stops (hashesTo (supplied l (a .image) (set .at) (set .blocks) (a .work)) (set .blocks) hash)
+  filled-refusal command.Free a = inl refl
+  filled-refusal command.Unsupported a = inl refl
+  filled-refusal (command.Bad p) a = inl refl
 
-pub effect-refusal : (l : List ℕ) (xs : List Stash) (hash : List ℕ) (c : Command) (a : Areas) →
-    (effect l xs hash c a .refusal ≡ none) ⊎ InRun (effect l xs hash c a .refusal)
-unfolding effect
-effect-refusal l xs hash c a =
-    picks Stops (isFinished l hash c (a .image)) _ _ (λ e. inl refl) (λ e. unfinished-stops l xs hash c a)
+  filled-written-stops : (c : Command) (a : Areas) → Stops (filledWritten l xs hash c a .refusal)
+  unfolding filledWritten
+  filled-written-stops c a =
+      picks (λ (x : Effect). Stops (x .refusal)) (eqb (filled l xs hash c a .refusal) none) _ _ (λ g. inl refl) (λ g. filled-refusal c a)
+
+  unfinished-stops : (c : Command) (a : Areas) → Stops (unfinishedEffect l xs hash c a .refusal)
+  unfolding unfinishedEffect
+  unfinished-stops (command.Zero set) a = inl refl
+  unfinished-stops (command.Erase set) a = inl refl
+  unfinished-stops (command.New set) a = inl refl
+  unfinished-stops (command.Move target n source) a = filled-written-stops (command.Move target n source) a
+  unfinished-stops (command.Bsdiff target n source) a = filled-written-stops (command.Bsdiff target n source) a
+  unfinished-stops (command.Stash set) a = filled-written-stops (command.Stash set) a
+  unfinished-stops command.Free a = inl refl
+  unfinished-stops command.Unsupported a = inl refl
+  unfinished-stops (command.Bad p) a = inl refl
+
+  pub effect-refusal : (c : Command) (a : Areas) → (effect l xs hash c a .refusal ≡ none) ⊎ InRun (effect l xs hash c a .refusal)
+  unfolding effect
+  effect-refusal c a =
+      picks (λ (x : Effect). Stops (x .refusal)) (isFinished l hash c (a .image)) _ _ (λ e. inl refl) (λ e. unfinished-stops c a)

@@ -3,6 +3,7 @@ pub mod DigestLaws
 pub mod NewLaws
 pub mod SourceLaws
 pub mod EffectLaws
+pub mod StepLaws
 pub mod RunnableLaws
 pub mod FitLaws
 pub mod AtLineLaws

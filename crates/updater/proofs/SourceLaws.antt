@@ -11,7 +11,7 @@ use Rattle.ranges.specs.declared.RangeSet.{RangeSet}
 use Rattle.ranges.specs.declared.walk.Walk.{Walk}
 use Rattle.ranges.proofs.WalkLaws.{length-span, walk-start}
 use Rattle.state.specs.Limits.{blockBytes}
-use Rattle.state.specs.Stashes.{Stash, findIn, sizeAt, blocksHeld}
+use Rattle.state.specs.Stashes.{Stash, findIn, sizeAt, blocksHeld, stashStart}
 use Rattle.state.specs.Sums.{bounded}
 use Rattle.state.specs.declared.stashes.Found.{Found}
 use Rattle.state.specs.declared.stashes.Found.the-variants.{At, Nothing}
@@ -21,7 +21,7 @@ use Rattle.command.specs.declared.source.Source.{Source}
 use Rattle.command.specs.declared.source.Source.the-variants.{Blocks, Stashes, Both}
 use Rattle.updater.specs.Areas.{Areas}
 use Rattle.updater.specs.Bytes.{gathered, written}
-use Rattle.updater.specs.Source.{stashStart, stashBytes, spread, supplied, together}
+use Rattle.updater.specs.Source.{stashBytes, spread, supplied, together}
 use Rattle.updater.specs.Runnable.{Keeps, FoundSize, Spread, Spreads, InImage, InWork, Sourced, blocksIn}
 use Rattle.updater.proofs.ByteLaws.{length-gathered, length-written, below-span, gathered-span}
 
@@ -52,7 +52,7 @@ module _ (xs : List Stash) (stash : List ℕ) (k : Keeps xs stash) where
   pub start-exact : (j : ℕ) {n : ℕ} → n ≡ bounded (blocksHeld (take j xs)) → n ≡ stashStart xs j
   start-exact j e = omega (arith, blocks-held-before xs j, k .blocks)
 
-  length-stash-bytes : (hash : List ℕ) (n : ℕ) → FoundSize xs n (findIn xs hash) → length (stashBytes xs stash hash) ≡ blockBytes * n
+  pub length-stash-bytes : (hash : List ℕ) (n : ℕ) → FoundSize xs n (findIn xs hash) → length (stashBytes xs stash hash) ≡ blockBytes * n
   unfolding stashBytes
   length-stash-bytes hash n h = go (findIn xs hash) refl h
     where

@@ -1,7 +1,7 @@
--- Document 01, "Calls": what one call answers and leaves, for every list, state, areas and piece.
+-- Document 01, "Calls", and document 02, R-9: what one call answers and leaves, for every list, state, areas and piece.
 -- Assumes nothing: these are definitions.
 use Prim.Native.Nat.{ℕ}
-use mathlib.Core.Bool.{Bool}
+use mathlib.Core.Bool.{Bool, false}
 use mathlib.Core.List.{List}
 use lib.ListN.{length}
 use lib.Dec.{leb, eqb}
@@ -13,10 +13,9 @@ use Rattle.state.specs.declared.Refusal.{Refusal}
 use Rattle.state.specs.declared.State.{State}
 use Rattle.transfer_list.specs.Opening.{lengthsOf}
 use Rattle.possible.specs.Possible.{isPossible, termsFor}
-use Rattle.machine.specs.Machine.{feeds, counts}
 use Rattle.updater.specs.Areas.{Areas}
 use Rattle.updater.specs.Steps.{Config}
-use Rattle.updater.specs.Run.{machine}
+use Rattle.updater.specs.Run.{Reached, runOf}
 use Rattle.updater.specs.declared.Outcome.{Outcome}
 use Rattle.updater.specs.declared.Outcome.the-variants as outcome
 use Rattle.updater.specs.declared.Advanced.{Advanced}
@@ -38,20 +37,28 @@ lengthsAt s a =
 unfoldable pub isRun : ℕ → List ℕ → Config → Bool
 isRun least s p = both (eqb (p .state .refusal .number) none) (isPossible least s (lengthsAt s (p .areas)) (p .state))
 
+-- the run of a piece, on the terms that list and areas now give
+abbrev pub ran : ℕ → List ℕ → List ℕ → Config → Reached
+ran least s piece p = runOf least s (termsFor s (lengthsAt s (p .areas))) piece p
+
 -- what stands after a call: a held refusal and 17 change nothing
 unfoldable pub leaves : ℕ → List ℕ → List ℕ → Config → Config
-leaves least s piece p = pick (isRun least s p) (feeds (machine least s (termsFor s (lengthsAt s (p .areas)))) piece p) p
+leaves least s piece p = pick (isRun least s p) (ran least s piece p .config) p
 
 -- bytes taken
 unfoldable pub takes : ℕ → List ℕ → List ℕ → Config → ℕ
-takes least s piece p = pick (isRun least s p) (counts (machine least s (termsFor s (lengthsAt s (p .areas)))) piece p) 0
+takes least s piece p = pick (isRun least s p) (ran least s piece p .taken) 0
 
--- a held refusal is repeated; then 17; else what the run came to
+-- it stopped for saving
+unfoldable pub stops : ℕ → List ℕ → List ℕ → Config → Bool
+stops least s piece p = pick (isRun least s p) (ran least s piece p .stop) false
+
+-- a held refusal is repeated; then 17; then a stop; else what the run came to
 unfoldable pub says : ℕ → List ℕ → List ℕ → Config → Outcome
 says least s piece p =
     pick (eqb (p .state .refusal .number) none)
     (pick (isPossible least s (lengthsAt s (p .areas)) (p .state))
-    (outcomeOf s (leaves least s piece p .state))
+    (pick (stops least s piece p) outcome.Stop (outcomeOf s (leaves least s piece p .state)))
     (outcome.Refused (refusing stateImpossible 0)))
     (outcomeOf s (p .state))
 

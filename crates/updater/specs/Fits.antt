@@ -3,11 +3,14 @@
 -- Assumes nothing: these are definitions.
 use mathlib.Core.Path.{_≡_}
 use mathlib.Core.List.{List}
-use Prim.Native.Nat.{ℕ, _+_, _*_, _≤_}
+use mathlib.Core.Bool.{true}
+use Prim.Native.Nat.{ℕ, _+_, _*_, _^_, _≤_, _<_}
 use lib.ListN.{length}
+use Rattle.ranges.specs.Ranges.{leastBlocks}
 use Rattle.state.specs.Limits.{blockBytes, mostImageBlocks, mostAreaBlocks, mostListBytes, mostStashes}
 use Rattle.state.specs.Stashes.{Whole, tableOf, held, blocksHeld}
 use Rattle.rules.specs.declared.Terms.{Terms}
+use Rattle.possible.specs.Possible.{canBeStretched}
 use Rattle.updater.specs.Steps.{Config}
 use Rattle.updater.specs.Runnable.{blocksIn}
 
@@ -25,3 +28,5 @@ pub record Fits (s : List ℕ) (terms : Terms) (p : Config) : Type 0 where
   pub most-stashes : terms .stashes ≤ mostStashes
   pub whole : Whole (tableOf (p .state))
   pub blocks : blocksHeld (held (p .state)) ≤ terms .blocks
+  pub total : p .state .total < 2 ^ 64
+  pub stretches : canBeStretched leastBlocks s (p .state .at) (held (p .state)) (p .state .stretches) ≡ true

@@ -1,6 +1,7 @@
--- Document 01, "Calls": how the lines of a list run, as a machine that takes the bytes of new data one by one.
+-- Document 01, "Calls", and document 02, R-9: how the lines of a list run, step by step, as a machine that takes the bytes of new data one by
+-- one, and where it stops for saving.
 -- Assumes nothing: these are definitions.
-use Prim.Native.Nat.{ℕ, _-_, _*_}
+use Prim.Native.Nat.{ℕ, _+_, _-_, _*_}
 use mathlib.Core.Bool.{Bool}
 use mathlib.Core.List.{List, []}
 use lib.ListN.{length, set}
@@ -8,19 +9,21 @@ use lib.Dec.{leb, ltb, eqb}
 use Rattle.text.specs.Choice.{pick, both, either, no}
 use Rattle.text.specs.Line.{lineAt}
 use Rattle.ranges.specs.Walk.{blocksAt}
-use Rattle.state.specs.Limits.{blockBytes}
+use Rattle.state.specs.Limits.{blockBytes, mostAreaBlocks}
 use Rattle.state.specs.Refusals.{none}
 use Rattle.state.specs.Stashes.{held}
+use Rattle.state.specs.States.{isReady}
 use Rattle.command.specs.Commands.{commandOf}
 use Rattle.command.specs.Faults.{faultByte}
 use Rattle.command.specs.Targets.{newTarget, onNewTarget}
 use Rattle.command.specs.declared.Command.{Command}
 use Rattle.rules.specs.Rules.{refusalOf}
 use Rattle.rules.specs.declared.Terms.{Terms}
-use Rattle.machine.specs.Machine.{Machine, feeds, counts}
+use Rattle.machine.specs.Machine.{Machine}
+use Rattle.machine.specs.Stops.{callEnds, callTakes}
 use Rattle.updater.specs.Areas.{withImage}
 use Rattle.updater.specs.Bytes.{addressOf}
-use Rattle.updater.specs.Steps.{Config, configOf, refusedWith, furtherInto, after}
+use Rattle.updater.specs.Steps.{Config, configOf, refusedWith, furtherInto, stopsAfter, stepAt, after}
 
 -- the current line, and what it is refused for
 abbrev pub currentLine : List ℕ → Config → List ℕ
@@ -40,12 +43,18 @@ faultHere least s p = faultByte (p .state .at) (currentCommand least s p)
 unfoldable pub refusedAt : ℕ → ℕ → Config → Config
 refusedAt number byte p = configOf (p .areas) (refusedWith (p .state) number byte)
 
--- each line is decoded and checked again before it runs
+-- each line is decoded and checked again before a step of it
 unfoldable pub quietStep : ℕ → List ℕ → Terms → Config → Config
 quietStep least s terms p =
     pick (eqb (refusalHere least s terms p) none)
     (after (currentLine s p) (commandOf least (currentLine s p) .hash) (currentCommand least s p) p)
     (refusedAt (refusalHere least s terms p) (faultHere least s p) p)
+
+-- a stop for saving follows that step
+unfoldable pub haltsAt : ℕ → List ℕ → Terms → Config → Bool
+haltsAt least s terms p =
+    both (eqb (refusalHere least s terms p) none)
+    (stopsAfter (stepAt (currentLine s p) (commandOf least (currentLine s p) .hash) (currentCommand least s p) p .end))
 
 -- the blocks that new data goes to: those of a `new`'s target
 unfoldable pub newBlocks : List ℕ → Command → List ℕ
@@ -71,7 +80,15 @@ isStopped s p = either (no (eqb (p .state .refusal .number) none)) (leb (length 
 unfoldable pub needsByte : ℕ → List ℕ → Terms → Config → Bool
 needsByte least s terms p = both (eqb (refusalHere least s terms p) none) (ltb (p .state .into) (newBytes (currentCommand least s p)))
 
--- the lines of a text, run on those terms. Each step without a byte leaves a line or refuses, so the text left is fuel enough
+-- the steps that are left at the most: a line has one to fill and one to write, or a stretch for each block that is held
+abbrev pub lineSteps : ℕ
+lineSteps = mostAreaBlocks + 2
+
+abbrev pub stepsLeft : List ℕ → Config → ℕ
+stepsLeft s p =
+    lineSteps * (length s - p .state .at) + (pick (isReady (p .state .ready)) 0 1 + (mostAreaBlocks - p .state .stretches))
+
+-- the lines of a text, run on those terms
 abbrev pub machine : ℕ → List ℕ → Terms → Machine
 machine least s terms =
     record {
@@ -80,16 +97,20 @@ machine least s terms =
       stopped = isStopped s;
       quiet = quietStep least s terms;
       put = putByte least s;
-      fuel = λ p. pick (eqb (p .state .refusal .number) none) (length s - p .state .at) 0;
+      fuel = λ p. pick (eqb (p .state .refusal .number) none) (stepsLeft s p) 0;
     }
 
--- where a run of a piece ends, and the bytes that it took
+-- where a run of a piece ends, the bytes that it took, and whether it stopped for saving
 pub record Reached : Type 0 where
   pub config : Config
   pub taken : ℕ
+  pub stop : Bool
 
-abbrev pub reached : Config → ℕ → Reached
-reached config taken = record { config = config; taken = taken }
+abbrev pub reached : Config → ℕ → Bool → Reached
+reached config taken stop = record { config = config; taken = taken; stop = stop }
 
 unfoldable pub runOf : ℕ → List ℕ → Terms → List ℕ → Config → Reached
-runOf least s terms piece p = reached (feeds (machine least s terms) piece p) (counts (machine least s terms) piece p)
+runOf least s terms piece p =
+    reached (callEnds (machine least s terms) (haltsAt least s terms) piece p .config)
+    (callTakes (machine least s terms) (haltsAt least s terms) piece p)
+    (callEnds (machine least s terms) (haltsAt least s terms) piece p .halted)

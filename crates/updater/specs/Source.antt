@@ -1,4 +1,4 @@
--- Document 01, "Putting a source together" and "The stash area", and document 02, R-8: what blocks hash to.
+-- Document 01, "Putting a source together" and "The stash area", and document 02, R-8: what blocks hash to, and R-9: a `free` in stretches.
 -- Assumes nothing: these are definitions.
 use Prim.Native.Nat.{ℕ, _+_, _-_, _*_}
 use mathlib.Core.List.{List, [], _∷_}
@@ -8,17 +8,14 @@ use Rattle.sha1.specs.Sha1.{sha1}
 use Rattle.ranges.specs.Ranges.{span}
 use Rattle.ranges.specs.Walk.{blocksAt}
 use Rattle.state.specs.Limits.{blockBytes}
-use Rattle.state.specs.Stashes.{Stash, same, findIn, sizeAt, blocksHeld}
+use Rattle.state.specs.Stashes.{Stash, same, findIn, sizeAt, blocksHeld, stashStart, younger}
+use Rattle.state.specs.Stretches.{stretchBlocks}
 use Rattle.state.specs.declared.stashes.Found.{Found}
 use Rattle.state.specs.declared.stashes.Found.the-variants.{At, Nothing}
 use Rattle.command.specs.Parts.{StashUse, usesAt}
 use Rattle.command.specs.declared.source.Source.{Source}
 use Rattle.command.specs.declared.source.Source.the-variants.{Blocks, Stashes, Both}
 use Rattle.updater.specs.Bytes.{gathered, written, movedDown}
-
--- the block of the stash area where stash j starts: stashes lie back to back from the front, oldest first
-abbrev pub stashStart : List Stash → ℕ → ℕ
-stashStart held j = blocksHeld (take j held)
 
 abbrev pub foundBytes : List Stash → List ℕ → Found → List ℕ
 foundBytes held stash (At j) = take (blockBytes * sizeAt held j) (drop (blockBytes * stashStart held j) stash)
@@ -58,4 +55,14 @@ blocksHashTo bs area hash = same (sha1 (gathered bs area)) hash
 unfoldable pub closedUp : List Stash → ℕ → List ℕ → List ℕ
 closedUp held j stash =
     movedDown stash (blockBytes * stashStart held j) (blockBytes * (stashStart held j + sizeAt held j))
-    (blockBytes * (blocksHeld held - (stashStart held j + sizeAt held j)))
+    (blockBytes * younger held j)
+
+-- the block that stretch k of them goes to, k stretches having gone before it
+abbrev pub stretchStart : List Stash → ℕ → ℕ → ℕ
+stretchStart held j k = stashStart held j + k * sizeAt held j
+
+-- the stash area after stretch k: each stretch moves down by the gap
+unfoldable pub stretched : List Stash → ℕ → ℕ → List ℕ → List ℕ
+stretched held j k stash =
+    movedDown stash (blockBytes * stretchStart held j k) (blockBytes * (stretchStart held j k + sizeAt held j))
+    (blockBytes * stretchBlocks (sizeAt held j) (younger held j) k)

@@ -1,7 +1,7 @@
-// What a `bsdiff` does: a source is patched into the result area and, if its digest is right, goes from there to the image.
+// What each step of a `bsdiff` does: a source is patched into the result area and, where that has its digest, goes from there to the image.
 ghost use mathlib.Core.Path.{_≡_};
 ghost use mathlib.Core.List.{List};
-ghost use Prim.Native.Nat.{ℕ, _+_, _*_, _≤_};
+ghost use Prim.Native.Nat.{ℕ, _+_, _*_, _/_, _≤_};
 ghost use lib.ListN.{length, take, drop};
 ghost use Rattle.text.specs.Choice.{pick};
 ghost use Rattle.state.specs.Limits.{blockBytes};
@@ -10,8 +10,11 @@ ghost use Rattle.command.specs.declared.Command.the-variants.{Bsdiff};
 ghost use Rattle.copy.specs.Over.{over};
 ghost use Rattle.patch.specs.Patch.{isPatch, patchedBy};
 ghost use Rattle.updater.specs.Areas.{areasOf};
-ghost use Rattle.updater.specs.Effect.{effectOf, resultEffect, patchEffect, effect};
-ghost use Rattle.updater.specs.Runnable.{Keeps, InImage, PatchRuns, BsdiffRuns};
+ghost use Rattle.updater.specs.Effect.{effectOf, patchFilled, bsdiffFilled};
+ghost use Rattle.updater.specs.Runnable.{Keeps, BsdiffRuns};
+ghost use Rattle.updater.specs.Steps.{stepped, fillStep};
+use crate::commands::StepEnd;
+use crate::commands::fill_end;
 use crate::digest::has_hash;
 use crate::digest::set_has_hash;
 use crate::sets::write_set;
@@ -48,31 +51,9 @@ fn make_result(
     apply(&patch[start..end], source, &mut result[..size])
 }
 
-// The result goes over the target if its digest is T.
-fn write_result(
-    image: &mut [u8],
-    result: &[u8],
-    l: &[u8],
-    patching: Patching,
-    target: RangeSet,
-) -> usize
-    requires { ⌜ InImage (now l) (now image) target × (blockBytes * target .blocks ≤ length (now result)) ⌝ }
-    ensures { λ r. ⌜ ((stash work patch : List ℕ) →
-        effectOf (areasOf (now (image .exit)) stash work (now (result .entry)) patch) r
-        ≡ resultEffect (now (l .entry)) patching target (areasOf (now (image .entry)) stash work (now (result .entry)) patch)) ⌝ }
-{
-    let hash = read_result_hash(l, patching.hashes);
-    if !has_hash(result, target.blocks, hash) {
-        return HASH_DIFFERS;
-    }
-    let end = BLOCK_BYTES * target.blocks;
-    write_set(image, l, target.at, &result[..end]);
-    0
-}
-
-// The source in the work area's first n blocks is patched.
+// The source in the work area's first n blocks is patched into the result area, and what comes of it must have the digest T. Gives the number
+// of the refusal, 0 for none.
 fn patch_source(
-    image: &mut [u8],
     work: &[u8],
     result: &mut [u8],
     patch: &[u8],
@@ -81,24 +62,30 @@ fn patch_source(
     target: RangeSet,
     n: usize,
 ) -> usize
-    requires { ⌜ PatchRuns (now l) (now image) (now work) (now result) (now patch) patching target n ⌝ }
-    ensures { λ r. ⌜ ((stash : List ℕ) →
-        effectOf (areasOf (now (image .exit)) stash (now (work .entry)) (now (result .exit)) (now (patch .entry))) r
-        ≡ patchEffect (now (l .entry)) patching target n
-        (areasOf (now (image .entry)) stash (now (work .entry)) (now (result .entry)) (now (patch .entry)))) ⌝ }
+    requires { ⌜ (n ≤ length (now work) / blockBytes) × (target .blocks ≤ length (now result) / blockBytes) ⌝ }
+    requires { ⌜ patching .start + patching .length ≤ length (now patch) ⌝ }
+    ensures { λ r. ⌜ ((image stash : List ℕ) →
+        effectOf (areasOf image stash (now (work .entry)) (now (result .exit)) (now (patch .entry))) r
+        ≡ patchFilled (now (l .entry)) patching target n
+        (areasOf image stash (now (work .entry)) (now (result .entry)) (now (patch .entry)))) ⌝ }
 {
     let end = BLOCK_BYTES * n;
     let size = BLOCK_BYTES * target.blocks;
     if !make_result(patch, patching, &work[..end], result, size) {
         return PATCH_MALFORMED;
     }
-    write_result(image, &*result, l, patching, target)
+    let wanted = read_result_hash(l, patching.hashes);
+    if has_hash(&*result, target.blocks, wanted) {
+        return 0;
+    }
+    HASH_DIFFERS
 }
 
-// A target that already has the digest T is left as it is, and so are the work and the result area.
-pub(crate) fn run_bsdiff(
-    image: &mut [u8],
-    stash: &[u8],
+// The source goes into the work area and, if its digest is H, what the patch makes of it into the result area. Gives the number of the refusal,
+// 0 for none.
+fn fill_bsdiff<'a>(
+    image: &'a [u8],
+    stash: &'a [u8],
     work: &mut [u8],
     result: &mut [u8],
     patch: &[u8],
@@ -114,18 +101,66 @@ pub(crate) fn run_bsdiff(
     requires { ⌜ Keeps (heldIn (tableAt (now hashes) (now sizes) count)) (now stash) ⌝ }
     requires { ⌜ BsdiffRuns (now l) (heldIn (tableAt (now hashes) (now sizes) count))
         (areasOf (now image) (now stash) (now work) (now result) (now patch)) target n source ⌝ }
-    ensures { λ r. ⌜ effectOf (areasOf (now (image .exit)) (now (stash .entry)) (now (work .exit)) (now (result .exit)) (now (patch .entry))) r
-        ≡ effect (now (l .entry)) (heldIn (tableAt (now (hashes .entry)) (now (sizes .entry)) count)) hash (Bsdiff target n source)
+    ensures { λ r. ⌜ effectOf (areasOf (now (image .entry)) (now (stash .entry)) (now (work .exit)) (now (result .exit)) (now (patch .entry))) r
+        ≡ bsdiffFilled (now (l .entry)) (heldIn (tableAt (now (hashes .entry)) (now (sizes .entry)) count)) hash target n source
         (areasOf (now (image .entry)) (now (stash .entry)) (now (work .entry)) (now (result .entry)) (now (patch .entry))) ⌝ }
 {
     let patching = read_patching(l);
-    let wanted = read_result_hash(l, patching.hashes);
-    if set_has_hash(&*image, l, target.at, wanted) {
-        return 0;
-    }
-    put_together(&*image, stash, work, l, hashes, sizes, count, source);
+    put_together(image, stash, work, l, hashes, sizes, count, source);
     if !has_hash(&*work, n, hash) {
         return HASH_DIFFERS;
     }
-    patch_source(image, &*work, result, patch, l, patching, target, n)
+    patch_source(&*work, result, patch, l, patching, target, n)
+}
+
+// What is ready is written, whatever the target holds; a target that already has the digest T is left as it is, and so are the work and the
+// result area; else these are filled.
+pub(crate) fn step_bsdiff(
+    image: &mut [u8],
+    stash: &[u8],
+    work: &mut [u8],
+    result: &mut [u8],
+    patch: &[u8],
+    l: &[u8],
+    hashes: &[u8; TABLE_BYTES],
+    sizes: &[usize; MOST_STASHES],
+    count: usize,
+    target: RangeSet,
+    n: usize,
+    source: Source,
+    hash: [u8; HASH_BYTES],
+    ready: usize,
+) -> StepEnd
+    requires { ⌜ Keeps (heldIn (tableAt (now hashes) (now sizes) count)) (now stash) ⌝ }
+    requires { ⌜ BsdiffRuns (now l) (heldIn (tableAt (now hashes) (now sizes) count))
+        (areasOf (now image) (now stash) (now work) (now result) (now patch)) target n source ⌝ }
+    ensures { λ r. ⌜ stepped (areasOf (now (image .exit)) (now (stash .entry)) (now (work .exit)) (now (result .exit)) (now (patch .entry))) r
+        ≡ fillStep (now (l .entry)) (heldIn (tableAt (now (hashes .entry)) (now (sizes .entry)) count)) hash (Bsdiff target n source) ready
+        (areasOf (now (image .entry)) (now (stash .entry)) (now (work .entry)) (now (result .entry)) (now (patch .entry))) ⌝ }
+{
+    if ready != 0 {
+        let end = BLOCK_BYTES * target.blocks;
+        write_set(image, l, target.at, &result[..end]);
+        return StepEnd::Ended;
+    }
+    let patching = read_patching(l);
+    let wanted = read_result_hash(l, patching.hashes);
+    if set_has_hash(&*image, l, target.at, wanted) {
+        return StepEnd::Ended;
+    }
+    fill_end(fill_bsdiff(
+        &*image,
+        stash,
+        work,
+        result,
+        patch,
+        l,
+        hashes,
+        sizes,
+        count,
+        target,
+        n,
+        source,
+        hash,
+    ))
 }

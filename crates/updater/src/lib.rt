@@ -25,10 +25,11 @@ mod run;
 mod sets;
 mod source;
 
-// Done, more new data wanted, or refused.
+// Done, more new data wanted, stopped for saving, or refused.
 pub enum Outcome {
     Done,
     More,
+    Stop,
     Refused(Refusal),
 }
 
@@ -120,6 +121,13 @@ pub fn call_in_place(
         progress,
     );
     let last = ran.progress;
+    if ran.stop {
+        return Advanced {
+            progress: last,
+            outcome: Outcome::Stop,
+            taken: ran.taken,
+        };
+    }
     let refusal = last.refusal;
     let outcome = outcome_at(list.len(), last.at, refusal);
     Advanced {
@@ -161,6 +169,9 @@ pub fn call(
             line: state.line,
             at: state.at,
             into: state.into,
+            total: state.total,
+            ready: state.ready,
+            stretches: state.stretches,
             refusal,
             lengths,
         },
@@ -177,6 +188,9 @@ pub fn call(
             line: last.line,
             at: last.at,
             into: last.into,
+            total: last.total,
+            ready: last.ready,
+            stretches: last.stretches,
             refusal: kept,
             lengths: opened,
         },

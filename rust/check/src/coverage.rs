@@ -7,6 +7,7 @@ mod lines;
 mod no_blocks;
 mod patch;
 mod sparse;
+mod stops;
 
 use crate::generate::line_starts;
 use crate::hex;
@@ -20,6 +21,7 @@ use patch::{Line, FAULTS, PATCHES};
 use reference::{digest, plain, Answer, Areas, Lengths, Outcome, Rooms, State, BLOCK, MOST_STASHES};
 pub use sparse::SparseCoverage;
 use std::fmt::Write;
+use stops::{mark, Mark, Stops};
 
 /// Lines that ran, by what they are.
 pub const LINES: [&str; 11] =
@@ -40,12 +42,15 @@ pub const KINDS: [&str; 8] = [
 /// What 9 is given for; the first that applies is counted.
 pub const NINES: [&str; 3] = ["N over the work area", "S over the work area", "a target over the result area"];
 
+/// What is called over memory that is closed where it has no business.
+pub const CLOSED: [&str; 5] = ["finished lines", "ready moves", "ready bsdiffs", "ready stashes", "stretches"];
+
 /// Whose hash differs.
 pub const SIXTEENS: [&str; 3] = ["a move or a stash", "a patch's source", "a patch's result"];
 
 /// What makes a state impossible, in document 01's order; the first that applies is counted. The third to the seventh: what the areas
 /// and the header would now give.
-pub const CAUSES: [&str; 15] = [
+pub const CAUSES: [&str; 18] = [
     "the length of list or area",
     "the length of the result area alone",
     "the length of the patch data alone",
@@ -58,13 +63,18 @@ pub const CAUSES: [&str; 15] = [
     "line number",
     "over 256 stashes",
     "one hash twice",
+    "a stash of no blocks",
     "blocks held",
     "bytes into a new",
     "bytes into a new with an empty range",
+    "a ready mark",
+    "stretches",
 ];
 
-/// One hash twice.
+/// One hash twice, a stash of no blocks, and the first cause that looks at the line.
 const TWICE: usize = 11;
+const EMPTY: usize = 12;
+const INTO: usize = 14;
 
 /// The cause that takes a list of over 4 MiB: too slow for every run, and tried by a test of its own.
 const LONG_LIST: usize = 4;
@@ -76,6 +86,7 @@ pub struct Coverage {
     /// Calls by outcome.
     pub done: u64,
     pub more: u64,
+    pub stopped: u64,
     pub refused: u64,
     /// Refused calls by number where the state held none before; the last for any other number.
     pub numbers: [u64; 21],
@@ -101,8 +112,10 @@ pub struct Coverage {
     pub sequences: u64,
     pub runs: u64,
     pub digests: u64,
-    /// Finished lines over closed memory.
-    pub closed: u64,
+    /// Calls that were made by the slow model too.
+    pub thrice: u64,
+    /// Calls over closed memory.
+    pub closed: [u64; CLOSED.len()],
     pub lines: [u64; LINES.len()],
     pub kinds: [u64; KINDS.len()],
     /// Openings and calls with many stashes and long sources.
@@ -119,6 +132,8 @@ pub struct Coverage {
     pub bytes: [u64; BYTES.len()],
     /// Lines that find their work done, or nearly.
     pub finished: Finished,
+    /// Stops, and what only they bring.
+    pub stops: Stops,
 }
 
 impl Coverage {
@@ -129,7 +144,7 @@ impl Coverage {
             let _ = writeln!(out, "{number:>6} {:>11} {:>11}", self.opened[number], self.numbers[number]);
         }
         let _ = writeln!(out, "accepted openings {}, refused {}", self.opened[0], self.opened[1..].iter().sum::<u64>());
-        let _ = writeln!(out, "calls: done {}, more {}, refused {}", self.done, self.more, self.refused);
+        let _ = writeln!(out, "calls: done {}, more {}, stop {}, refused {}", self.done, self.more, self.stopped, self.refused);
         let _ = writeln!(
             out,
             "of these: refusals repeated {}, other numbers {}, after done {}, empty pieces {}, stopped within a block {}",
@@ -147,17 +162,15 @@ impl Coverage {
         let _ = writeln!(out, "19 for: {}", counted(&FAULTS, &self.faults));
         let _ = writeln!(out, "lines that ran: {}", counted(&LINES, &self.lines));
         let _ = writeln!(out, "of these: {}", counted(&KINDS, &self.kinds));
-        for (name, kinds, counts) in self.finished.groups() {
+        for (name, kinds, counts) in self.finished.groups().into_iter().chain(self.stops.groups()) {
             let _ = writeln!(out, "{name}: {}", counted(kinds, counts));
         }
         let _ = writeln!(out, "many and long: {}", counted(&LIMITS, &self.limits));
         let _ = writeln!(out, "stashes of no blocks: {}", counted(&NO_BLOCKS, &self.no_blocks));
         let _ = writeln!(out, "patches that ran: {}", counted(&PATCHES, &self.patches));
-        let Coverage { sequences, runs, digests, closed, .. } = self;
-        let _ = writeln!(
-            out,
-            "sequences held to the model {sequences}, runs over cuts {runs}, digests {digests}, finished lines over closed memory {closed}"
-        );
+        let _ = writeln!(out, "over closed memory: {}", counted(&CLOSED, &self.closed));
+        let Coverage { sequences, runs, digests, thrice, .. } = self;
+        let _ = writeln!(out, "calls by the model too {thrice}, sequences held to it {sequences}, runs over cuts {runs}, digests {digests}");
         out
     }
 
@@ -184,12 +197,14 @@ impl Coverage {
         self.called_forms.empty_ranges().for_each(|(name, n)| note(format!("in a call, {name}"), n));
         [0, 8, 11, 15].into_iter().for_each(|k| note(format!("an empty range in a list that gave {k}"), self.given_before[k]));
         BYTES.iter().zip(self.bytes).for_each(|(name, n)| note(name.to_string(), n));
-        for (name, kinds, counts) in self.finished.groups() {
+        for (name, kinds, counts) in self.finished.groups().into_iter().chain(self.stops.groups()) {
             kinds.iter().zip(counts).for_each(|(kind, n)| note(format!("{name}: {kind}"), *n));
         }
+        CLOSED.iter().zip(self.closed).for_each(|(name, n)| note(format!("over closed memory: {name}"), n));
         for (name, n) in [
             ("done", self.done),
             ("more", self.more),
+            ("a stop", self.stopped),
             ("a refusal repeated", self.repeated),
             ("a call after done", self.after_done),
             ("an empty piece", self.empty),
@@ -197,7 +212,7 @@ impl Coverage {
             ("a sequence held to the model", self.sequences),
             ("a run over cuts", self.runs),
             ("a digest", self.digests),
-            ("a finished line over closed memory", self.closed),
+            ("a call by the model too", self.thrice),
         ] {
             note(name.to_string(), n);
         }
@@ -219,12 +234,14 @@ impl Coverage {
         match answer.outcome {
             Outcome::Done => self.done += 1,
             Outcome::More => self.more += 1,
+            Outcome::Stop => self.stopped += 1,
             Outcome::Refused(_) => self.refused += 1,
         }
         self.empty += piece.is_empty() as u64;
         add(&mut self.bytes, &form::called(before, answer));
         if before.refusal.number != 0 {
             self.repeated += 1;
+            self.stops.repeated(before);
             return;
         }
         if let Outcome::Refused(refusal) = answer.outcome {
@@ -236,6 +253,10 @@ impl Coverage {
         add(&mut self.limits, &limits::called(list, before, answer, impossible == Some(TWICE)));
         if let Some(cause) = impossible {
             self.causes[cause] += 1;
+            if cause == EMPTY {
+                add(&mut self.no_blocks, &no_blocks::impossible(list, before));
+            }
+            self.stops.impossible(list, &lengths, before, (cause >= INTO).then(|| mark(list, &lengths, before)));
             return;
         }
         let line = list[answer.state.at..].split_inclusive(|c| *c == b'\n').next().unwrap_or(b"");
@@ -257,17 +278,17 @@ impl Coverage {
             _ => {}
         }
         self.within += (answer.outcome == Outcome::More && answer.state.into % BLOCK != 0) as u64;
-        add(&mut self.no_blocks, &no_blocks::called(list, before, answer));
-        let skipped = kept.map_or(Vec::new(), |kept| self.finished.called(list, areas, piece, kept, before, answer));
-        self.ran(&list[before.at..answer.state.at], &skipped, before, areas.patch);
+        add(&mut self.no_blocks, &no_blocks::called(before, answer));
+        self.stops.called(list, piece, before, answer);
+        let skipped = self.finished.called(list, areas, piece, kept, before, answer);
+        self.ran(list, answer.state.at, &skipped, before, areas.patch);
     }
 
-    /// The lines that a call finished, from a possible state on, but for those that it skipped.
-    fn ran(&mut self, lines: &[u8], skipped: &[usize], from: &State, patch: &[u8]) {
+    /// The lines that a call finished, from a possible state on to this place, but for those that it skipped.
+    fn ran(&mut self, list: &[u8], end: usize, skipped: &[usize], from: &State, patch: &[u8]) {
         let mut held: Vec<(Vec<u8>, u64)> = (0..from.count).map(|k| (hash_of(from, k), from.sizes[k] as u64)).collect();
-        let mut freed: Vec<Vec<u8>> = Vec::new();
         let mut next = from.at;
-        for line in lines.split(|c| *c == b'\n') {
+        for line in list[from.at..end].split(|c| *c == b'\n') {
             let at = next;
             next += line.len() + 1;
             if skipped.contains(&at) {
@@ -281,7 +302,7 @@ impl Coverage {
                 [b"erase", _] => 1,
                 [b"new", _] => 2,
                 [b"stash", name, _] => {
-                    kinds[6] = freed.iter().any(|other| other == name);
+                    kinds[6] = list[..at].split(|c| *c == b'\n').any(|line| line.strip_prefix(b"free ") == Some(name));
                     held.push((name.to_vec(), blocks(&sets[0])));
                     3
                 }
@@ -289,7 +310,6 @@ impl Coverage {
                     let j = held.iter().position(|stash| stash.0 == name).unwrap_or(0);
                     let gone = held.remove(j);
                     kinds[7] = gone.1 > 0 && held[j..].iter().any(|younger| younger.1 > 0);
-                    freed.push(gone.0);
                     4
                 }
                 [b"move", _, _, _, ref source @ ..] | [b"bsdiff", _, _, _, _, _, _, ref source @ ..] => {
@@ -407,15 +427,23 @@ fn cause(list: &[u8], lengths: &Lengths, state: &State) -> usize {
     if names.len() < state.count {
         return TWICE;
     }
+    if state.sizes[..state.count].contains(&0) {
+        return EMPTY;
+    }
     let total: u128 = state.sizes[..state.count].iter().map(|size| *size as u128).sum();
     if total > header.blocks as u128 {
-        return 12;
+        return 13;
+    }
+    match mark(list, lengths, state) {
+        Mark::Bytes => {}
+        Mark::Ready => return 16,
+        Mark::Stretches => return 17,
     }
     let line = list[state.at..].split(|c| *c == b'\n').next().unwrap_or(b"");
     let image = (lengths.image / BLOCK) as u64;
     match line.strip_prefix(b"new ").and_then(ranges) {
-        Some(set) if set.iter().any(|(start, end)| start > end || *end > image) => 13,
-        Some(set) if set.iter().any(|(start, end)| start == end) && ((state.into / BLOCK) as u64) < blocks(&set) => 14,
-        _ => 13,
+        Some(set) if set.iter().any(|(start, end)| start > end || *end > image) => INTO,
+        Some(set) if set.iter().any(|(start, end)| start == end) && ((state.into / BLOCK) as u64) < blocks(&set) => 15,
+        _ => INTO,
     }
 }

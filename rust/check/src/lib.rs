@@ -2,6 +2,7 @@
 
 pub mod compare;
 pub mod coverage;
+pub mod cuts;
 pub mod generate;
 mod guard;
 mod hex;
@@ -10,14 +11,33 @@ pub mod record;
 
 pub use hex::hex;
 pub use library::Library;
-use reference::{model, plain, Answer, Areas, Hash, Rooms, State};
+use reference::{model, plain, saved, Answer, Areas, Hash, Outcome, Rooms, State};
 
 /// One implementation of the rules, on the reference's types.
 pub trait Implementation {
     fn digest(&self, bytes: &[u8]) -> Hash;
     fn open(&self, list: &[u8], rooms: Rooms) -> State;
     fn call(&self, list: &[u8], areas: Areas, piece: &[u8], state: State) -> Answer;
+    /// Calls until the run is done, needs more or is refused: after a stop the next piece is what was not taken. All bytes taken count.
+    fn call_on(&self, list: &[u8], mut areas: Areas, piece: &[u8], state: State) -> Answer {
+        let (mut state, mut taken) = (state, 0);
+        loop {
+            let answer = self.call(list, areas.reborrow(), &piece[taken..], state);
+            (state, taken) = (answer.state, taken + answer.taken);
+            if answer.outcome != Outcome::Stop {
+                return Answer { taken, ..answer };
+            }
+        }
+    }
     fn run(&self, list: &[u8], areas: Areas, data: &[u8], cuts: &[usize]) -> Answer;
+    /// The saved form of a state. The reference has one for both its ways.
+    fn save(&self, state: &State) -> Vec<u8> {
+        saved::save(state)
+    }
+    /// The state whose saved form the bytes are, or the number that they are refused with.
+    fn restore(&self, bytes: &[u8]) -> Result<State, usize> {
+        saved::restore(bytes).ok_or(20)
+    }
     /// Nothing, or the number that the file is refused with.
     fn load_sparse(&self, file: &[u8], image: &mut [u8]) -> Result<(), usize>;
 }
@@ -36,6 +56,10 @@ impl Implementation for Plain {
         let called = plain::call(list, areas, piece, &mut state);
         Answer { state, outcome: called.outcome, taken: called.taken }
     }
+    fn call_on(&self, list: &[u8], areas: Areas, piece: &[u8], mut state: State) -> Answer {
+        let called = plain::call_on(list, areas, piece, &mut state);
+        Answer { state, outcome: called.outcome, taken: called.taken }
+    }
     fn run(&self, list: &[u8], areas: Areas, data: &[u8], cuts: &[usize]) -> Answer {
         plain::run(list, areas, data, cuts)
     }
@@ -44,7 +68,7 @@ impl Implementation for Plain {
     }
 }
 
-/// The rules by splitting and collecting; its run is one call with all the data.
+/// The rules by splitting and collecting; its run is the model, which has no stops, over all the data.
 pub struct Model;
 
 impl Implementation for Model {
@@ -57,9 +81,12 @@ impl Implementation for Model {
     fn call(&self, list: &[u8], areas: Areas, piece: &[u8], state: State) -> Answer {
         model::call(list, areas, piece, state)
     }
+    fn call_on(&self, list: &[u8], areas: Areas, piece: &[u8], state: State) -> Answer {
+        model::through(list, areas, piece, state)
+    }
     fn run(&self, list: &[u8], areas: Areas, data: &[u8], _cuts: &[usize]) -> Answer {
         let opened = model::open(list, areas.rooms());
-        model::call(list, areas, data, opened)
+        model::through(list, areas, data, opened)
     }
     fn load_sparse(&self, file: &[u8], image: &mut [u8]) -> Result<(), usize> {
         model::load_sparse(file, image)

@@ -43,6 +43,14 @@ impl Implementation for Library {
         answer_of(called, &state)
     }
 
+    fn save(&self, state: &State) -> Vec<u8> {
+        library_state(state).save().to_vec()
+    }
+
+    fn restore(&self, bytes: &[u8]) -> Result<State, usize> {
+        muongrabi::State::restore(bytes).map(|state| state_of(&state)).map_err(|refusal| refusal.number())
+    }
+
     fn load_sparse(&self, file: &[u8], image: &mut [u8]) -> Result<(), usize> {
         muongrabi::load_sparse(file, image).map_err(|refusal| refusal.number())
     }
@@ -61,7 +69,7 @@ fn areas_of(areas: Areas) -> muongrabi::Areas {
 
 /// Every field, those past the count too, since whole states are compared.
 pub fn library_state(state: &State) -> muongrabi::State {
-    let State { hashes, sizes, count, line, at, into, refusal, lengths } = *state;
+    let State { hashes, sizes, count, line, at, into, refusal, lengths, total, ready, stretches } = *state;
     let Lengths { list, image, stash, work, result, patch } = lengths;
     muongrabi::State::from(&Fields {
         stashes: from_fn(|k| Stash { hash: from_fn(|j| hashes[20 * k + j]), blocks: sizes[k] }),
@@ -69,6 +77,9 @@ pub fn library_state(state: &State) -> muongrabi::State {
         line,
         at,
         into,
+        total: total as usize,
+        ready,
+        stretches,
         refusal: muongrabi::Refusal::new(refusal.number, refusal.line, refusal.byte),
         list,
         lengths: muongrabi::Lengths { image, stash, work, result, patch },
@@ -77,14 +88,15 @@ pub fn library_state(state: &State) -> muongrabi::State {
 
 /// The other way.
 fn state_of(state: &muongrabi::State) -> State {
-    let Fields { stashes, count, line, at, into, refusal, list, lengths } = state.fields();
+    let Fields { stashes, count, line, at, into, total, ready, stretches, refusal, list, lengths } = state.fields();
     let mut hashes = [0; 20 * MOST_STASHES];
     for (hash, stash) in hashes.chunks_exact_mut(20).zip(&stashes) {
         hash.copy_from_slice(&stash.hash);
     }
     let muongrabi::Lengths { image, stash, work, result, patch } = lengths;
     let lengths = Lengths { list, image, stash, work, result, patch };
-    State { hashes, sizes: stashes.map(|stash| stash.blocks), count, line, at, into, refusal: refusal_of(refusal), lengths }
+    let sizes = stashes.map(|stash| stash.blocks);
+    State { hashes, sizes, count, line, at, into, refusal: refusal_of(refusal), lengths, total: total as u64, ready, stretches }
 }
 
 fn refusal_of(refusal: muongrabi::Refusal) -> Refusal {
@@ -96,6 +108,7 @@ pub fn outcome_of(outcome: muongrabi::Outcome) -> Outcome {
     match outcome {
         muongrabi::Outcome::Done => Outcome::Done,
         muongrabi::Outcome::More => Outcome::More,
+        muongrabi::Outcome::Stop => Outcome::Stop,
         muongrabi::Outcome::Refused(refusal) => Outcome::Refused(refusal_of(refusal)),
     }
 }

@@ -43,6 +43,15 @@ impl Record {
         (0..text.len()).step_by(2).map(byte).collect::<Option<_>>().ok_or_else(|| format!("{key} is not in hexadecimal digits"))
     }
 
+    /// As Python writes it.
+    pub fn truth(&self, key: &str) -> Read<bool> {
+        match self.text(key)? {
+            "True" => Ok(true),
+            "False" => Ok(false),
+            other => Err(format!("{key} is {other}, neither True nor False")),
+        }
+    }
+
     pub fn hash(&self, key: &str) -> Read<Hash> {
         self.bytes(key)?.try_into().map_err(|_| format!("{key} is no hash"))
     }
@@ -68,6 +77,7 @@ impl Record {
         match self.text(&format!("{key}.0"))? {
             "done" => Ok(Outcome::Done),
             "more" => Ok(Outcome::More),
+            "stop" => Ok(Outcome::Stop),
             "refused" => Ok(Outcome::Refused(self.refusal(key, 1)?)),
             other => Err(format!("{other} is no outcome")),
         }
@@ -78,7 +88,9 @@ impl Record {
         let of = |name: &str| self.number(&format!("{key}.{name}"));
         let (list, image, stash, work) = (of("list_len")?, of("image_len")?, of("stash_len")?, of("work_len")?);
         let lengths = Lengths { list, image, stash, work, result: of("result_len")?, patch: of("patch_len")? };
+        let (total, ready) = (self.number(&format!("{key}.total"))?, self.truth(&format!("{key}.ready"))? as usize);
         let mut state = State { at: of("pos")?, line: of("line")?, into: of("into")?, lengths, ..State::ZERO };
+        (state.total, state.ready, state.stretches) = (total, ready, of("stretches")?);
         for stash in self.row(&format!("{key}.stashes"))? {
             let k = state.count;
             state.hashes.chunks_exact_mut(20).nth(k).ok_or("more stashes than a state has")?.copy_from_slice(&self.hash(&format!("{stash}.0"))?);

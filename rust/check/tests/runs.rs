@@ -57,17 +57,19 @@ fn a_hash_that_differs() {
 
 #[test]
 fn impossible_states() {
-    let list = "3\n3\n3\n2\nnew 2,0,2\nzero 2,0,1\n";
-    let edit = |f: &dyn Fn(&mut State)| {
+    // The number of a call from an altered state of this list, over a stash area of so many blocks.
+    let edit_in = |list: &str, blocks: usize, f: &dyn Fn(&mut State)| {
         let mut got = Vec::new();
         for on in all() {
             let mut lent = Lent::new(list);
+            lent.stash.resize(blocks * BLOCK, b's');
             let mut state = lent.open(on);
             f(&mut state);
+            let before = lent.clone();
             let answer = lent.call(on, b"", state);
             if answer.outcome.number() == 17 {
                 assert_eq!((said(&answer), answer.state), ((refused(17, 0), 0), state));
-                assert_eq!(lent.letters(), ["ABCDEFGH", "xyz", "uvw", "rst"]);
+                assert!(lent == before);
             }
             got.push(answer);
         }
@@ -75,6 +77,7 @@ fn impossible_states() {
         assert_eq!(got.len(), 1);
         got[0].outcome.number()
     };
+    let edit = |f: &dyn Fn(&mut State)| edit_in("3\n3\n3\n2\nnew 2,0,2\nzero 2,0,1\n", 3, f);
     let hash = |s: &mut State, k: usize, v: u8| s.hashes[20 * k..20 * k + 20].fill(v);
     assert_eq!(edit(&|_| {}), 0);
     assert_eq!(edit(&|s| s.line = 4), 17);
@@ -89,8 +92,9 @@ fn impossible_states() {
     assert_eq!(edit(&|s| s.into = 8_191), 0);
     assert_eq!(edit(&|s| s.into = 8_192), 17);
     assert_eq!(edit(&|s| s.into = usize::MAX), 17);
-    assert_eq!(edit(&|s| s.count = 1), 0);
-    assert_eq!(edit(&|s| s.count = 2), 17);
+    assert_eq!(edit(&|s| (s.count, s.sizes[0]) = (1, 1)), 0);
+    assert_eq!(edit(&|s| s.count = 1), 17);
+    assert_eq!(edit(&|s| (s.count, s.sizes[0], s.sizes[1]) = (2, 1, 1)), 17);
     assert_eq!(edit(&|s| s.count = MOST_STASHES + 1), 17);
     assert_eq!(edit(&|s| s.count = usize::MAX), 17);
     assert_eq!(edit(&|s| (s.count, s.sizes[0]) = (1, 2)), 0);
@@ -103,41 +107,39 @@ fn impossible_states() {
         }),
         17
     );
-    // More stashes than line 3, up to the most, are possible.
-    let full = |s: &mut State| {
-        (0..MOST_STASHES).for_each(|k| hash(s, k, k as u8));
-        s.count = MOST_STASHES;
+    // More stashes than line 3, up to the most, are possible, where line 4 has room for their blocks.
+    let edit_full = |f: &dyn Fn(&mut State)| {
+        let list = format!("3\n3\n3\n{}\nnew 2,0,2\nzero 2,0,1\n", MOST_STASHES + 1);
+        edit_in(&list, MOST_STASHES + 1, &|s: &mut State| {
+            (0..MOST_STASHES).for_each(|k| hash(s, k, k as u8));
+            s.sizes = [1; MOST_STASHES];
+            s.count = MOST_STASHES;
+            f(s);
+        })
     };
-    assert_eq!(edit(&full), 0);
+    assert_eq!(edit_full(&|_| {}), 0);
     for count in [MOST_STASHES + 1, MOST_STASHES + 2, 2 * MOST_STASHES] {
-        assert_eq!(
-            edit(&|s| {
-                full(s);
-                s.count = count;
-            }),
-            17
-        );
+        assert_eq!(edit_full(&|s| s.count = count), 17);
     }
     // One hash twice, near to one another and far apart; past the count it does not matter.
     for (j, k) in [(0, 1), (0, 63), (0, 64), (63, 64), (64, 65), (0, 255), (100, 200), (1, 254), (254, 255)] {
         for count in [k, k + 1] {
-            let twice = edit(&|s| {
-                full(s);
+            let twice = edit_full(&|s| {
                 hash(s, k, j as u8);
                 s.count = count;
             });
             assert_eq!(twice, if count > k { 17 } else { 0 }, "{j} {k} {count}");
         }
     }
-    // The last stash's blocks count.
-    for (blocks, want) in [(2, 0), (3, 17), (usize::MAX, 17)] {
-        assert_eq!(
-            edit(&|s| {
-                full(s);
-                s.sizes[MOST_STASHES - 1] = blocks;
-            }),
-            want
-        );
+    // The last stash's blocks count, and it must have some, as every other.
+    for (blocks, want) in [(2, 0), (3, 17), (usize::MAX, 17), (0, 17)] {
+        assert_eq!(edit_full(&|s| s.sizes[MOST_STASHES - 1] = blocks), want);
+    }
+    for k in [0, 1, 63, 64, 254] {
+        for count in [k, k + 1] {
+            let empty = edit_full(&|s| (s.sizes[k], s.count) = (0, count));
+            assert_eq!(empty, if count > k { 17 } else { 0 }, "{k} {count}");
+        }
     }
     assert_eq!(edit(&|s| s.lengths.list += 1), 17);
     assert_eq!(edit(&|s| s.lengths.image += BLOCK), 17);
@@ -261,40 +263,50 @@ fn the_most_stashes() {
     }
 }
 
-/// A stash of no blocks, which no list makes and no rule forbids a state: it can be freed, and no source takes anything from it.
+/// A stash of no blocks, which no list makes: a state that holds one is impossible, whatever its line is and does with it.
 #[test]
 fn stashes_of_no_blocks() {
-    let (a, b, nothing) = (name("A"), name("B"), name(""));
-    // The state is at the first of these lines and holds nothing's hash, then A in a block.
-    for (lines, outcome, left, areas) in [
-        (format!("free {nothing}\n"), Done, 1, ["ABCDEFGH", "Ayz", "uvw", "rst"]),
-        (format!("free {nothing}\nfree {a}\n"), Done, 0, ["ABCDEFGH", "Ayz", "uvw", "rst"]),
-        (format!("free {a}\nfree {nothing}\nstash {b} 2,1,2\n"), Done, 1, ["ABCDEFGH", "Byz", "Bvw", "rst"]),
-        (format!("free {nothing}\nstash {nothing} 2,1,2\n"), refused(16, 6), 1, ["ABCDEFGH", "Ayz", "Bvw", "rst"]),
-        (format!("move {a} 2,7,8 1 - {a}:2,0,1\n"), Done, 2, ["ABCDEFGA", "Ayz", "Avw", "rst"]),
-        (format!("stash {nothing} 2,1,2\n"), refused(13, 5), 2, ["ABCDEFGH", "Ayz", "uvw", "rst"]),
-        (format!("move {a} 2,7,8 1 - {nothing}:2,0,1\n"), refused(11, 5), 2, ["ABCDEFGH", "Ayz", "uvw", "rst"]),
-        (format!("move {nothing} 2,7,8 0 - {nothing}:2,0,1\n"), refused(11, 5), 2, ["ABCDEFGH", "Ayz", "uvw", "rst"]),
-        (format!("move {a} 2,7,8 1 - {a}:2,0,1 {nothing}:2,1,2\n"), refused(11, 5), 2, ["ABCDEFGH", "Ayz", "uvw", "rst"]),
-        (format!("move {a} 2,6,8 2 2,0,1 2,0,1 {nothing}:2,1,2\n"), refused(11, 5), 2, ["ABCDEFGH", "Ayz", "uvw", "rst"]),
-        (format!("bsdiff 0 0 {a} {a} 2,7,8 1 - {a}:2,0,1 {nothing}:2,1,2\n"), refused(11, 5), 2, ["ABCDEFGH", "Ayz", "uvw", "rst"]),
-        (
-            format!("move {a} 2,7,8 1 - {a}:2,0,1 {nothing}:2,1,1\n"),
-            Outcome::Refused(Refusal { number: 6, line: 5, byte: 157 }),
-            2,
-            ["ABCDEFGH", "Ayz", "uvw", "rst"],
-        ),
+    let (a, nothing) = (name("A"), name(""));
+    // The state is at the first of these lines, or behind them, and holds nothing's hash, A in a block and B in a block.
+    for lines in [
+        String::new(),
+        "zero 2,0,1\n".into(),
+        "erase 2,0,1\n".into(),
+        "new 2,0,1\n".into(),
+        "new 2,0,9\n".into(),
+        "zap\n".into(),
+        format!("free {nothing}\n"),
+        format!("free {a}\n"),
+        format!("stash {nothing} 2,1,2\n"),
+        format!("stash {} 2,2,3\n", name("C")),
+        format!("move {a} 2,7,8 1 - {a}:2,0,1\n"),
+        format!("move {a} 2,7,8 1 2,0,1\n"),
+        format!("move {a} 2,0,1 1 2,0,1\n"),
+        format!("move {a} 2,7,8 1 - {nothing}:2,0,1\n"),
+        format!("bsdiff 0 0 {a} {a} 2,7,8 1 - {a}:2,0,1 {nothing}:2,1,2\n"),
     ] {
-        for on in all() {
-            let mut lent = Lent::new(&format!("3\n1\n2\n2\n{lines}"));
-            lent.stash[..BLOCK].fill(b'A');
-            let mut state = State { line: 5, at: 8, count: 2, lengths: Lengths::of(&lent.list, lent.rooms()), ..State::ZERO };
-            state.hashes[..20].copy_from_slice(&digest(b""));
-            state.hashes[20..40].copy_from_slice(&digest(&blocks("A")));
-            state.sizes[1] = 1;
-            let answer = lent.call(on, b"", state);
-            assert_eq!((said(&answer), answer.state.count), ((outcome, 0), left), "{lines}");
-            assert_eq!(lent.letters(), areas, "{lines}");
+        for (order, held) in [([0, 1, 2], 3), ([1, 0, 2], 3), ([1, 2, 0], 3), ([0, 1, 2], 1), ([1, 0, 2], 2), ([1, 2, 0], 2)] {
+            for at_end in [false, true] {
+                for on in all() {
+                    let mut lent = Lent::new(&format!("3\n1\n4\n3\n{lines}"));
+                    let mut state = State { line: 5, at: 8, count: held, lengths: Lengths::of(&lent.list, lent.rooms()), ..State::ZERO };
+                    if at_end {
+                        (state.line, state.at) = (5 + !lines.is_empty() as usize, lent.list.len());
+                    }
+                    for (k, which) in order.into_iter().enumerate() {
+                        let (letters, blocks_held) = [("", 0), ("A", 1), ("B", 1)][which];
+                        state.hashes[20 * k..20 * k + 20].copy_from_slice(&digest(&blocks(letters)));
+                        state.sizes[k] = blocks_held;
+                    }
+                    let before = lent.clone();
+                    let answer = lent.call_once(on, b"", state);
+                    let is_held = order[..held].contains(&0);
+                    assert_eq!(answer.outcome.number() == 17, is_held, "{lines} {order:?} {held}");
+                    if is_held {
+                        assert!(said(&answer) == (refused(17, 0), 0) && answer.state == state && lent == before, "{lines} {order:?}");
+                    }
+                }
+            }
         }
     }
 }

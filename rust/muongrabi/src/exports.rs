@@ -1,11 +1,12 @@
 //! What crosses to the proved library, laid out as in `include/muongrabi.h`. All `unsafe` is here: the functions below are safe, and the
 //! public types hide the structs, so that they can stay when something else crosses.
 
-use crate::{Areas, MOST_STASHES};
+use crate::{Areas, MOST_STASHES, SAVED};
 use core::mem::{offset_of, size_of};
 
 pub const DONE: usize = 0;
 pub const MORE: usize = 1;
+pub const STOP: usize = 3;
 
 /// The table of the stashes' hashes.
 pub const TABLE_BYTES: usize = 20 * MOST_STASHES;
@@ -36,6 +37,9 @@ pub struct Progress {
     pub line: usize,
     pub at: usize,
     pub into: usize,
+    pub total: usize,
+    pub ready: usize,
+    pub stretches: usize,
     pub refusal: Refusal,
     pub lengths: Lengths,
 }
@@ -59,7 +63,13 @@ pub struct Answer {
     pub taken: usize,
 }
 
-/// The layout that the library was compiled with. It changes together with the number in `muongrabi_abi_4`.
+#[repr(C)]
+pub struct Restored {
+    pub number: usize,
+    pub state: State,
+}
+
+/// The layout that the library was compiled with. It changes together with the number in `muongrabi_abi_5`.
 const _: () = {
     assert!(size_of::<usize>() == 8);
     assert!(offset_of!(Refusal, number) == 0);
@@ -70,26 +80,32 @@ const _: () = {
     assert!(offset_of!(State, hashes) == 0);
     assert!(offset_of!(State, sizes) == 5_120);
     assert!(offset_of!(State, progress) == 7_168);
-    assert!(size_of::<State>() == 7_272);
+    assert!(size_of::<State>() == 7_296);
     assert!(offset_of!(Progress, count) == 0);
     assert!(offset_of!(Progress, line) == 8);
     assert!(offset_of!(Progress, at) == 16);
     assert!(offset_of!(Progress, into) == 24);
-    assert!(offset_of!(Progress, refusal) == 32);
-    assert!(offset_of!(Progress, lengths) == 56);
-    assert!(size_of::<Progress>() == 104);
+    assert!(offset_of!(Progress, total) == 32);
+    assert!(offset_of!(Progress, ready) == 40);
+    assert!(offset_of!(Progress, stretches) == 48);
+    assert!(offset_of!(Progress, refusal) == 56);
+    assert!(offset_of!(Progress, lengths) == 80);
+    assert!(size_of::<Progress>() == 128);
     assert!(offset_of!(Answer, progress) == 0);
-    assert!(offset_of!(Answer, outcome) == 104);
-    assert!(offset_of!(Answer, number) == 112);
-    assert!(offset_of!(Answer, line) == 120);
-    assert!(offset_of!(Answer, byte) == 128);
-    assert!(offset_of!(Answer, taken) == 136);
-    assert!(size_of::<Answer>() == 144);
+    assert!(offset_of!(Answer, outcome) == 128);
+    assert!(offset_of!(Answer, number) == 136);
+    assert!(offset_of!(Answer, line) == 144);
+    assert!(offset_of!(Answer, byte) == 152);
+    assert!(offset_of!(Answer, taken) == 160);
+    assert!(size_of::<Answer>() == 168);
+    assert!(offset_of!(Restored, number) == 0);
+    assert!(offset_of!(Restored, state) == 8);
+    assert!(size_of::<Restored>() == 7_304);
 };
 
 #[rustfmt::skip]
 extern "C" {
-    fn muongrabi_abi_4() -> usize;
+    fn muongrabi_abi_5() -> usize;
     fn muongrabi_digest(bytes: *const u8, bytes_length: usize, out: *mut [u8; 20]);
     fn muongrabi_open(
         list: *const u8, list_length: usize,
@@ -116,13 +132,18 @@ extern "C" {
         cuts: *const usize, cuts_length: usize,
         hashes: *mut [u8; TABLE_BYTES], sizes: *mut [usize; MOST_STASHES],
     ) -> Answer;
+    fn muongrabi_save(
+        hashes: *const [u8; TABLE_BYTES], sizes: *const [usize; MOST_STASHES], progress: Progress,
+        out: *mut [u8; SAVED],
+    );
+    fn muongrabi_restore(bytes: *const u8, bytes_length: usize) -> Restored;
     fn muongrabi_sparse_load(file: *const u8, file_length: usize, image: *mut u8, image_length: usize) -> u32;
 }
 
 /// Only an archive of this layout has a function of that name, so that no other one links, wherever the linker found it.
 fn ask_abi() {
     // SAFETY: it takes nothing and gives a number.
-    unsafe { muongrabi_abi_4() };
+    unsafe { muongrabi_abi_5() };
 }
 
 pub fn digest(bytes: &[u8]) -> [u8; 20] {
@@ -186,6 +207,21 @@ pub fn run(list: &[u8], areas: Areas<'_>, data: &[u8], cuts: &[usize]) -> (Answe
     };
     let progress = answer.progress;
     (answer, State { hashes, sizes, progress })
+}
+
+pub fn save(state: &State) -> [u8; SAVED] {
+    let State { hashes, sizes, progress } = state;
+    let mut out = [0; SAVED];
+    ask_abi();
+    // SAFETY: two whole tables are lent to be read, and as many bytes as a saved form has to be written.
+    unsafe { muongrabi_save(hashes, sizes, *progress, &mut out) };
+    out
+}
+
+pub fn restore(bytes: &[u8]) -> Restored {
+    ask_abi();
+    // SAFETY: the bytes are lent to be read.
+    unsafe { muongrabi_restore(bytes.as_ptr(), bytes.len()) }
 }
 
 /// 0, or the number of a refusal.

@@ -1,12 +1,13 @@
 //! A block updater: it opens an Android transfer list of version 3 and runs it over a lent image while the new data arrives in pieces of
-//! any size. After a dropped connection it goes on from the state it left. A `move` or `bsdiff` whose target already has the result is passed over;
-//! of any other line, a source that does not have its hash, or a patch whose result does not have its own, stops the run before a byte of the target
-//! is written.
+//! any size. After a dropped connection it goes on from the state it left, and after a power cut from the one that was saved. A `move` or
+//! `bsdiff` whose target already has the result is passed over; of any other line, a source that does not have its hash, or a patch whose result
+//! does not have its own, ends the run before a byte of the target is written.
 //!
 //! This crate is the safe face of a library that is proved: any bytes as list, data, patch, state or sparse file get an answer; a list opens
 //! exactly when it meets the rules, and then does what they say, in order; and however the new data is cut into pieces, what stands after the
-//! last call is what the rules give for the pieces joined. Nothing is allocated, no file is opened and nothing is kept inside: all that is
-//! worked on is lent, and what must be remembered between calls is the [`State`]. Some 52 KiB of stack are wanted, 8 of them by a [`call`].
+//! last call is what the rules give for the pieces joined; and a run that was cut at any byte, and goes on from the state saved at its last
+//! stop, ends as one that was not. Nothing is allocated, no file is opened and nothing is kept inside: all that is worked on is lent, and what
+//! must be remembered between calls is the [`State`]. Some 52 KiB of stack are wanted, 8 of them by a [`call`].
 //!
 //! ```
 //! use muongrabi::{Areas, Outcome, Updater, BLOCK};
@@ -43,6 +44,9 @@
 //! assert!(refusal.to_string().starts_with("line 5, byte 15 of the list: the line is not a command"));
 //! ```
 //!
+//! The run stops for saving ([`Outcome::Stop`]) wherever it must, so that it can be finished after a power cut: [`Updater::write`] goes past these
+//! stops, and [`Updater::call`] is for those who save. [`State`] says what to keep, and when.
+//!
 //! A first image that comes as an Android sparse file is put into its place by [`load_sparse`].
 //!
 //! It runs on x86-64 Linux, where `libmuongrabi.a` is built (`./build library` in the repository); the build script finds the archive, or
@@ -66,7 +70,7 @@ mod state;
 mod updater;
 
 pub use areas::{Areas, Lengths};
-pub use limits::{BLOCK, MOST_AREA, MOST_IMAGE, MOST_LIST, MOST_RESULT, MOST_STASHES};
+pub use limits::{BLOCK, MOST_AREA, MOST_IMAGE, MOST_LIST, MOST_RESULT, MOST_STASHES, SAVED};
 pub use outcome::{Called, Outcome};
 pub use refusal::Refusal;
 pub use sparse::load_sparse;
@@ -102,8 +106,8 @@ pub fn open(list: &[u8], lengths: Lengths) -> Result<State, Refusal> {
     }
 }
 
-/// Runs the list from where the state stands until it needs a byte that the piece does not have, the list is finished, or a line is
-/// refused. The state is then that of the next call.
+/// Runs the list from where the state stands until it needs a byte that the piece does not have, the list is finished, a line is refused, or
+/// the run stops for saving. The state is then that of the next call.
 ///
 /// A refusal other than 17 is held in the state, and every later call repeats it. With 17 (the state does not fit the list, the areas and the
 /// patch data) the state stays as it was, and nothing is taken or changed. A refused line changes nothing itself, with two exceptions: where a
@@ -127,6 +131,13 @@ pub fn open(list: &[u8], lengths: Lengths) -> Result<State, Refusal> {
 /// # Ok::<(), muongrabi::Refusal>(())
 /// ```
 ///
+/// # Stops
+///
+/// A run stops between filling the work area (of a `bsdiff` the result area) and writing from it, and after every `move`, `stash` and `bsdiff`,
+/// passed over or not. A `free` moves the younger stashes down in stretches as long as the stash that goes, the last perhaps shorter, and stops
+/// after each; where no stash is younger it does not stop. A stop may come with bytes of the piece not taken: the next piece begins with them. An
+/// empty piece is enough to go on. What is ready is written as it is, whatever the target holds: neither target nor source is read again.
+///
 /// # Finished lines
 ///
 /// Of a `move` or `bsdiff` the target's blocks are hashed first, as they stand in the image and in the order in which the line names them. Where
@@ -136,7 +147,7 @@ pub fn open(list: &[u8], lengths: Lengths) -> Result<State, Refusal> {
 ///
 /// So a list that is run again from its top over an image that it has updated passes over the lines that are finished. In general that is still
 /// not safe: a later line may have changed a block that an earlier one needs, and what a `stash` names may be gone. After a dropped
-/// connection go on from the state of the last call.
+/// connection go on from the state of the last call, and after a power cut from the state that was saved at the last stop.
 ///
 /// ```
 /// use muongrabi::{digest, run, Areas, Outcome, BLOCK};
@@ -156,8 +167,9 @@ pub fn call(list: &[u8], areas: Areas<'_>, piece: &[u8], state: &mut State) -> C
 }
 
 /// Opens the list, then calls with pieces of the data, whose lengths are `cuts`, cut short where the data ends, and once more with all
-/// that is left. What is called is the last call's outcome and the sum of bytes taken, with the state after it. A refused opening is
-/// `Refused`, takes nothing and changes nothing; its state holds the refusal and nothing else.
+/// that is left; after a stop it calls on, so that it never gives [`Outcome::Stop`]. What is called is the last call's outcome and the sum of
+/// bytes taken, with the state after it. A refused opening is `Refused`, takes nothing and changes nothing; its state holds the refusal and
+/// nothing else.
 ///
 /// ```
 /// use muongrabi::{run, Areas, Outcome};

@@ -17,3 +17,6 @@ pub const MOST_LIST: usize = 4_194_304;
 
 /// Stashes held at once.
 pub const MOST_STASHES: usize = 256;
+
+/// Bytes of a saved form of a state.
+pub const SAVED: usize = 7_306;

@@ -5,13 +5,15 @@ use crate::Refusal;
 use core::fmt;
 
 /// How a call ended.
-#[must_use = "whether the run is finished, wants more or is refused is said here"]
+#[must_use = "whether the run is finished, wants more, stops or is refused is said here"]
 #[derive(Clone, Copy, PartialEq, Eq, Hash, Debug)]
 pub enum Outcome {
     /// The list is finished.
     Done,
     /// Every byte of the piece is taken, and the next byte of new data is needed.
     More,
+    /// Stopped for saving: call on with the bytes of the piece that were not taken, and with more behind them if there are.
+    Stop,
     /// A line was refused, or the call itself.
     Refused(Refusal),
 }
@@ -21,13 +23,14 @@ impl fmt::Display for Outcome {
         match self {
             Outcome::Done => write!(to, "done"),
             Outcome::More => write!(to, "more new data is needed"),
+            Outcome::Stop => write!(to, "stopped for saving"),
             Outcome::Refused(refusal) => write!(to, "refused: {refusal}"),
         }
     }
 }
 
 /// What a call gives back beside the state.
-#[must_use = "whether the run is finished, wants more or is refused is said here"]
+#[must_use = "whether the run is finished, wants more, stops or is refused is said here"]
 #[derive(Clone, Copy, PartialEq, Eq, Hash, Debug)]
 pub struct Called {
     /// How it ended.
@@ -41,6 +44,7 @@ impl Called {
         let outcome = match answer.outcome {
             exports::DONE => Outcome::Done,
             exports::MORE => Outcome::More,
+            exports::STOP => Outcome::Stop,
             _ => Outcome::Refused(Refusal::new(answer.number, answer.line, answer.byte)),
         };
         Called { outcome, taken: answer.taken }

@@ -2,7 +2,7 @@
 
 use core::fmt;
 
-/// Why a list, a line, a call or a sparse file is refused, at which line of the list, and where a line is ill formed, at which byte.
+/// Why a list, a line, a call, a saved form or a sparse file is refused, at which line of the list, and where a line is ill formed, at which byte.
 ///
 /// Its `Display` is for people: `line 6: a range of the target or source ends past the image (refusal 8)`.
 #[derive(Clone, Copy, PartialEq, Eq, Hash, Debug)]
@@ -52,6 +52,8 @@ impl Refusal {
     pub const PAST_PATCH: usize = 18;
     /// In a run: a patch that is read is malformed, or its result is not as long as the target.
     pub const PATCH_MALFORMED: usize = 19;
+    /// The bytes are no state's saved form: [`State::restore`](crate::State::restore) alone gives it.
+    pub const NO_SAVED_FORM: usize = 20;
     /// A sparse file's header is cut short, or its mark or major version is another.
     pub const SPARSE_HEADER: usize = 30;
     /// A sparse file's header sizes are not 28 and 12, or its block size is not 4,096.
@@ -141,6 +143,7 @@ impl Refusal {
             Refusal::STATE_IMPOSSIBLE => "the state does not fit the list, the areas and the patch data of this call",
             Refusal::PAST_PATCH => "the line's patch ends past the patch data",
             Refusal::PATCH_MALFORMED => "the patch is malformed, or what it makes is not as long as the target",
+            Refusal::NO_SAVED_FORM => "the bytes are not the saved form of a state",
             Refusal::SPARSE_HEADER => {
                 "the file is no sparse file of major version 1: its header is cut short, or the mark or the version in it is another"
             }

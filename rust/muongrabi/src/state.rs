@@ -1,12 +1,16 @@
 //! Where a run stands.
 
-use crate::{exports, Lengths, Refusal, MOST_STASHES};
+use crate::{exports, Lengths, Refusal, MOST_STASHES, SAVED};
 use core::fmt;
 
-/// Where a run stands between two calls: the current line, the bytes of it that are written, the stashes held.
+/// Where a run stands between two calls: the current line, how far it is done, the stashes held, the bytes taken so far.
 ///
 /// [`open`](crate::open) gives the first one, and each [`call`](crate::call) leaves the next one in its place. Every state is safe to call
 /// with: one that is impossible with the list, the areas and the patch data is refused (17).
+///
+/// To finish after a power cut, keep image and areas in storage, and beside them what [`save`](State::save) gives: after opening and at every
+/// [`Stop`](crate::Outcome::Stop). Storage must have image and areas before the saved form that speaks of them, and the saved form, whole, before
+/// the next call writes. Then [`restore`](State::restore), and the new data from byte [`total`](State::total) on, end as a run that was not cut.
 #[derive(Clone, PartialEq, Eq)]
 pub struct State {
     pub(crate) raw: exports::State,
@@ -36,6 +40,12 @@ pub struct Fields {
     pub at: usize,
     /// Bytes written so far of a `new`.
     pub into: usize,
+    /// Bytes taken since the opening, modulo 2^64.
+    pub total: usize,
+    /// Not 0: the work area, for a `bsdiff` the result area, is filled and is written by the next call.
+    pub ready: usize,
+    /// Stretches of the younger stashes that a `free` has moved down.
+    pub stretches: usize,
     /// What every later call repeats as it is, if its number is not 0.
     pub refusal: Refusal,
     /// The list's length at opening, in bytes.
@@ -55,6 +65,36 @@ impl State {
         self.raw.progress.at
     }
 
+    /// Bytes of new data taken by all calls since the opening, modulo 2^64: where the new data goes on.
+    pub fn total(&self) -> u64 {
+        self.raw.progress.total as u64
+    }
+
+    /// Its saved form: bytes that every state has, the same on every machine. `docs/SAVED-FORM.md` has their layout.
+    ///
+    /// ```
+    /// use muongrabi::{open, Lengths, Refusal, State};
+    ///
+    /// let state = open(b"3\n1\n0\n0\nnew 2,0,1\n", Lengths { image: 4_096, stash: 0, work: 0, result: 0, patch: 0 })?;
+    /// let bytes = state.save();
+    /// assert_eq!(State::restore(&bytes), Ok(state));
+    /// // Bytes that are no state's saved form.
+    /// assert_eq!(State::restore(&bytes[1..]), Err(Refusal::new(Refusal::NO_SAVED_FORM, 0, 0)));
+    /// # Ok::<(), Refusal>(())
+    /// ```
+    pub fn save(&self) -> [u8; SAVED] {
+        exports::save(&self.raw)
+    }
+
+    /// The state whose saved form the bytes are; [`NO_SAVED_FORM`](Refusal::NO_SAVED_FORM), of no line, exactly when they are no state's. It is not
+    /// asked whether the state fits a list and areas: a call does (17).
+    pub fn restore(bytes: &[u8]) -> Result<State, Refusal> {
+        match exports::restore(bytes) {
+            exports::Restored { number: 0, state } => Ok(State { raw: state }),
+            exports::Restored { number, .. } => Err(Refusal::new(number, 0, 0)),
+        }
+    }
+
     /// The refusal that every later call repeats, if there is one.
     pub fn refusal(&self) -> Option<Refusal> {
         match self.raw.progress.refusal {
@@ -66,7 +106,7 @@ impl State {
     /// All that it holds.
     pub fn fields(&self) -> Fields {
         let exports::State { hashes, sizes, progress } = &self.raw;
-        let exports::Progress { count, line, at, into, refusal, lengths } = *progress;
+        let exports::Progress { count, line, at, into, total, ready, stretches, refusal, lengths } = *progress;
         let mut stashes = [Stash { hash: [0; 20], blocks: 0 }; MOST_STASHES];
         for ((stash, hash), blocks) in stashes.iter_mut().zip(hashes.chunks_exact(20)).zip(sizes) {
             stash.hash.copy_from_slice(hash);
@@ -78,6 +118,9 @@ impl State {
             line,
             at,
             into,
+            total,
+            ready,
+            stretches,
             refusal: Refusal::new(refusal.number, refusal.line, refusal.byte),
             list: lengths.list,
             lengths: Lengths { image: lengths.image, stash: lengths.stash, work: lengths.work, result: lengths.result, patch: lengths.patch },
@@ -87,12 +130,15 @@ impl State {
 
 impl From<&Fields> for State {
     fn from(fields: &Fields) -> State {
-        let Fields { stashes, count, line, at, into, refusal, list, lengths } = fields;
+        let Fields { stashes, count, line, at, into, total, ready, stretches, refusal, list, lengths } = fields;
         let progress = exports::Progress {
             count: *count,
             line: *line,
             at: *at,
             into: *into,
+            total: *total,
+            ready: *ready,
+            stretches: *stretches,
             refusal: exports::Refusal { number: refusal.number(), line: refusal.line(), byte: refusal.raw_byte() },
             lengths: exports::Lengths {
                 list: *list,
@@ -121,6 +167,9 @@ impl fmt::Debug for State {
             .field("line", &fields.line)
             .field("at", &fields.at)
             .field("into", &fields.into)
+            .field("total", &fields.total)
+            .field("ready", &fields.ready)
+            .field("stretches", &fields.stretches)
             .field("refusal", &self.refusal())
             .field("list", &fields.list)
             .field("lengths", &fields.lengths)

@@ -1,7 +1,8 @@
 //! The proved source, the C header and this crate declare the same things: functions, structs, limits, refusals in numbers and in words.
 //! No compiler sees more than one of them at a time, so their texts are compared.
 
-use muongrabi::{Refusal, BLOCK, MOST_AREA, MOST_IMAGE, MOST_LIST, MOST_RESULT, MOST_STASHES};
+use muongrabi::{Refusal, State, BLOCK, MOST_AREA, MOST_IMAGE, MOST_LIST, MOST_RESULT, MOST_STASHES, SAVED};
+use std::mem::size_of;
 
 const HEADER: &str = include_str!("../../../include/muongrabi.h");
 const EXPORTS: &str = include_str!("../src/exports.rs");
@@ -10,6 +11,7 @@ const LIBRARY: &str = include_str!("../../../crates/muongrabi/src/lib.rt");
 const STATE: &str = include_str!("../../../crates/state/src/lib.rt");
 const LIMITS: &str = include_str!("../../../crates/state/src/limits.rt");
 const REFUSALS: &str = include_str!("../../../crates/state/src/refusals.rt");
+const SAVED_FORM: &str = include_str!("../../../crates/saved/src/lib.rt");
 
 /// What stands between the first `from` and the next `to`.
 fn between<'a>(text: &'a str, from: &str, to: &str) -> &'a str {
@@ -52,7 +54,8 @@ fn abi() {
         assert!(text.contains(&declared), "{declared}");
     }
     // The layout that goes with the number.
-    assert_eq!((number, ["state", "progress", "export_answer"].map(size_asserted)), ("4", ["7272", "104", "144"]));
+    let structs = ["state", "progress", "export_answer", "restored"].map(size_asserted);
+    assert_eq!((number, structs), ("5", ["7296", "128", "168", "7304"]));
 }
 
 #[test]
@@ -72,6 +75,23 @@ fn limits() {
     assert!(proved.contains(&("HASH_BYTES", 20)));
     assert_eq!(between(LIMITS, "pub const TABLE_BYTES: usize = ", ";"), "HASH_BYTES * MOST_STASHES");
     assert_eq!(between(EXPORTS, "pub const TABLE_BYTES: usize = ", ";"), "20 * MOST_STASHES");
+    // A saved form is a state's bytes and five marks of two. The proved source works it out of its records; its export writes so many.
+    assert_eq!(defined("MUONGRABI_SAVED"), format!("{SAVED}ul"));
+    assert_eq!(SAVED, size_of::<State>() + 5 * 2);
+    assert!(SAVED_FORM.contains("pub const SAVED_BYTES: usize = ") && LIBRARY.contains("out: &mut [u8; SAVED_BYTES]"));
+}
+
+#[test]
+fn outcomes() {
+    for (name, header, number) in [("DONE", "MUONGRABI_DONE", 0), ("MORE", "MUONGRABI_MORE", 1), ("STOP", "MUONGRABI_STOP", 3)] {
+        assert_eq!(defined(header), format!("{number}u"));
+        assert_eq!(between(EXPORTS, &format!("pub const {name}: usize = "), ";"), number.to_string());
+    }
+    assert_eq!(defined("MUONGRABI_REFUSED"), "2u");
+    for (outcome, number) in [("Done", 0), ("More", 1), ("Stop", 3), ("Refused(refusal)", 2)] {
+        let arm = between(LIBRARY, &format!("Outcome::{outcome} => Answer {{"), "}");
+        assert_eq!(between(arm, "outcome: ", ","), number.to_string());
+    }
 }
 
 #[test]
@@ -96,6 +116,7 @@ fn refusal_numbers() {
         ("STATE_IMPOSSIBLE", Refusal::STATE_IMPOSSIBLE),
         ("PAST_PATCH", Refusal::PAST_PATCH),
         ("PATCH_MALFORMED", Refusal::PATCH_MALFORMED),
+        ("NO_SAVED_FORM", Refusal::NO_SAVED_FORM),
         ("SPARSE_HEADER", Refusal::SPARSE_HEADER),
         ("SPARSE_SIZES", Refusal::SPARSE_SIZES),
         ("SPARSE_IMAGE", Refusal::SPARSE_IMAGE),
@@ -120,7 +141,7 @@ fn text(number: usize) -> &'static str {
 
 #[test]
 fn refusal_texts() {
-    let rows = [("texts[] = {\n", 0, Refusal::PATCH_MALFORMED), ("texts_from_30[] = {\n", Refusal::SPARSE_HEADER, Refusal::SPARSE_END)];
+    let rows = [("texts[] = {\n", 0, Refusal::NO_SAVED_FORM), ("texts_from_30[] = {\n", Refusal::SPARSE_HEADER, Refusal::SPARSE_END)];
     for (row, first, last) in rows {
         let table = between(HEADER, row, "    };\n");
         let texts: Vec<&str> =
@@ -129,7 +150,7 @@ fn refusal_texts() {
         assert_eq!(texts, ours);
     }
     assert_eq!(between(HEADER, "texts_from_30[number - 30];\n    return \"", "\";"), text(usize::MAX));
-    for number in (Refusal::PATCH_MALFORMED + 1..Refusal::SPARSE_HEADER).chain([Refusal::SPARSE_END + 1]) {
+    for number in (Refusal::NO_SAVED_FORM + 1..Refusal::SPARSE_HEADER).chain([Refusal::SPARSE_END + 1]) {
         assert_eq!(text(number), text(usize::MAX), "{number}");
     }
     // A limit that a text names is the limit.
@@ -166,6 +187,7 @@ fn each_text_is_of_its_number() {
         (Refusal::STATE_IMPOSSIBLE, "state"),
         (Refusal::PAST_PATCH, "past the patch data"),
         (Refusal::PATCH_MALFORMED, "patch is malformed"),
+        (Refusal::NO_SAVED_FORM, "saved form"),
         (Refusal::SPARSE_HEADER, "no sparse file"),
         (Refusal::SPARSE_SIZES, "header sizes"),
         (Refusal::SPARSE_IMAGE, "as many blocks as the sparse file says"),
@@ -183,6 +205,7 @@ fn words() {
     assert_eq!(Refusal::new(Refusal::LIST_LENGTH, 0, 0).to_string(), "the list is longer than 4194304 bytes (refusal 2)");
     assert_eq!(Refusal::new(Refusal::OTHER_VERSION, 1, 0).to_string(), "line 1: the list's version is not 3 (refusal 4)");
     assert_eq!(Refusal::new(Refusal::SPARSE_PAST_IMAGE, 0, 0).to_string(), "a chunk of the sparse file ends past the image (refusal 34)");
+    assert_eq!(Refusal::new(Refusal::NO_SAVED_FORM, 0, 0).to_string(), "the bytes are not the saved form of a state (refusal 20)");
     assert_eq!(Refusal::new(99, 7, 0).to_string(), "line 7: a number that no rule gives (refusal 99)");
     // A byte with 3 and 6, be it 0, and with no other number, whatever is held.
     let words = "a header line is missing, is no number from 0 to 4294967295 in plain digits, or has no line feed (refusal 3)";
@@ -218,9 +241,13 @@ fn spread<'a>(fields: &[&'a str], progress: &[&'a str]) -> Vec<&'a str> {
 
 #[test]
 fn structs() {
-    for (name, source, in_header) in
-        [("Refusal", STATE, "refusal"), ("Lengths", STATE, "lengths"), ("Progress", STATE, "progress"), ("Answer", LIBRARY, "export_answer")]
-    {
+    for (name, source, in_header) in [
+        ("Refusal", STATE, "refusal"),
+        ("Lengths", STATE, "lengths"),
+        ("Progress", STATE, "progress"),
+        ("Answer", LIBRARY, "export_answer"),
+        ("Restored", SAVED_FORM, "restored"),
+    ] {
         let of_header = header_fields(in_header);
         assert_eq!(fields(EXPORTS, name), of_header, "{name}");
         assert_eq!(fields(source, name), of_header, "{name}");
@@ -243,7 +270,10 @@ fn crosses(name: &str, kind: &str) -> String {
         "*const u8" | "*mut u8" | "*const usize" | "*" => format!("{name}* "),
         "&mut [u8; 20]" | "*mut [u8; 20]" | "uint8_t[20]" => format!("{name}*20 "),
         "&mut [u8; TABLE_BYTES]" | "*mut [u8; TABLE_BYTES]" | "uint8_t[20 * MUONGRABI_MOST_STASHES]" => format!("{name}*table "),
+        "&[u8; TABLE_BYTES]" | "*const [u8; TABLE_BYTES]" | "const uint8_t[20 * MUONGRABI_MOST_STASHES]" => format!("{name}*read table "),
         "&mut [usize; MOST_STASHES]" | "*mut [usize; MOST_STASHES]" | "size_t[MUONGRABI_MOST_STASHES]" => format!("{name}*most "),
+        "&[usize; MOST_STASHES]" | "*const [usize; MOST_STASHES]" | "const size_t[MUONGRABI_MOST_STASHES]" => format!("{name}*read most "),
+        "&mut [u8; SAVED_BYTES]" | "*mut [u8; SAVED]" | "uint8_t[MUONGRABI_SAVED]" => format!("{name}*saved "),
         "usize" | "size_t" => format!("{name} "),
         "Progress" | "muongrabi_progress" => format!("{name}: progress "),
         other => panic!("what is {other:?}?"),
@@ -262,11 +292,15 @@ fn header_crosses(one: &str) -> String {
 
 #[test]
 fn functions() {
+    // A name for how long something is lent does not cross.
+    let library = LIBRARY.replace("<'a>", "").replace("&'a ", "&");
     for (gives, name, gives_here) in [
         ("void", "digest", ""),
         ("muongrabi_state", "open", " -> State"),
         ("muongrabi_export_answer", "call", " -> Answer"),
         ("muongrabi_export_answer", "run", " -> Answer"),
+        ("void", "save", ""),
+        ("muongrabi_restored", "restore", " -> Restored"),
         ("uint32_t", "sparse_load", " -> u32"),
     ] {
         let of_rust = |source: &str| -> String {
@@ -277,12 +311,12 @@ fn functions() {
         let parameters = between(HEADER, &format!("\n{gives} muongrabi_{name}("), ");").split(',').map(str::trim);
         let of_header: String = parameters.map(header_crosses).collect();
         assert_eq!(of_rust(EXPORTS), of_header, "{name}");
-        for (source, end) in [(EXPORTS, ";\n"), (LIBRARY, "\n    ensures")] {
+        for (source, end) in [(EXPORTS, ";\n"), (&library, "\n    ensures")] {
             let declared = between(source, &format!("fn muongrabi_{name}("), end);
             assert_eq!(declared.rsplit_once(')').map(|(_, after)| after), Some(gives_here), "{name}");
         }
         // `data` is no name for a parameter in the proved source.
-        let of_source = if name == "run" { of_rust(LIBRARY).replace("bytes", "data") } else { of_rust(LIBRARY) };
+        let of_source = if name == "run" { of_rust(&library).replace("bytes", "data") } else { of_rust(&library) };
         assert_eq!(of_source, of_header, "{name}");
     }
 }

@@ -1,6 +1,6 @@
-//! What this crate adds to the library: areas lent by name, states in the open, an updater that keeps them together.
+//! What this crate adds to the library: areas lent by name, states in the open and saved, an updater that keeps them together.
 
-use muongrabi::{call, digest, open, run, Areas, Called, Fields, Lengths, Outcome, Refusal, Stash, State, Updater, BLOCK, MOST_STASHES};
+use muongrabi::{call, digest, open, run, Areas, Called, Fields, Lengths, Outcome, Refusal, Stash, State, Updater, BLOCK, MOST_STASHES, SAVED};
 use std::hint::black_box;
 
 /// Blocks, each filled with its letter.
@@ -61,8 +61,9 @@ fn each_area_is_lent_as_itself() {
     let mut updater = Updater::open(list.as_bytes(), lent.areas()).expect("a good list");
     assert_eq!(updater.write(&blocks("pqr")), Outcome::Done);
     assert_eq!((updater.taken(), updater.state().line(), updater.state().at()), (2 * BLOCK as u64, 12, list.len()));
-    assert_eq!(letters(updater.image()), AFTER);
-    assert_eq!(lent.letters(), [AFTER, "A", "FCD", "Gs"]);
+    let shown = [updater.image(), updater.stash(), updater.work(), updater.result()].map(letters);
+    assert_eq!(shown, [AFTER, "A", "FCD", "Gs"]);
+    assert_eq!(lent.letters(), shown);
 }
 
 #[test]
@@ -96,13 +97,99 @@ fn a_run_goes_on_from_kept_fields() {
     let kept: Fields = updater.into_state().fields();
     assert_eq!((kept.count, kept.stashes[0].hash, kept.stashes[0].blocks), (1, digest(&blocks("A")), 1));
     assert_eq!((kept.line, kept.into, kept.list), (6, 5_000, list.len()));
+    assert_eq!((kept.total, kept.ready, kept.stretches), (5_000, 0, 0));
     assert_eq!(kept.lengths, Lengths { image: 8 * BLOCK, stash: BLOCK, work: 3 * BLOCK, result: 2 * BLOCK, patch: BLOCK + 29 });
 
     let state = State::from(&kept);
     assert_eq!(state.fields(), kept);
     let mut updater = Updater::resume(list.as_bytes(), lent.areas(), state);
     assert_eq!(updater.write(&blocks("pq")[5_000..]), Outcome::Done);
-    assert_eq!((updater.taken(), lent.letters()[0].as_str()), (3_192, AFTER));
+    assert_eq!((updater.taken(), updater.state().total()), (3_192, 8_192));
+    assert_eq!(lent.letters()[0], AFTER);
+}
+
+const STOP: Called = Called { outcome: Outcome::Stop, taken: 0 };
+
+#[test]
+fn a_call_goes_to_the_next_stop() {
+    let (list, mut lent) = (list(), Lent::new());
+    let mut updater = Updater::open(list.as_bytes(), lent.areas()).expect("a good list");
+    let data = blocks("pqr");
+    // Filled, and held.
+    for (ready, line, work, stash) in [(true, 5, "Avw", "x"), (false, 6, "Avw", "A")] {
+        assert_eq!(updater.call(&data), STOP);
+        let fields = updater.state().fields();
+        assert_eq!((fields.ready != 0, fields.line, fields.total), (ready, line, 0));
+        assert_eq!((letters(updater.work()).as_str(), letters(updater.stash()).as_str()), (work, stash));
+    }
+    // What is taken by the `new` belongs to the call that fills the next line.
+    assert_eq!(updater.call(&data), Called { outcome: Outcome::Stop, taken: 2 * BLOCK });
+    assert_eq!((updater.state().line(), updater.state().total(), updater.taken()), (7, 2 * BLOCK as u64, 2 * BLOCK as u64));
+    // The rest: a move written, one filled and written, the youngest stash freed and the patch filled, then written.
+    for line in [8, 8, 9, 10, 11] {
+        assert_eq!((updater.call(&data[2 * BLOCK..]), updater.state().line()), (STOP, line));
+    }
+    assert_eq!(updater.call(&data[2 * BLOCK..]), Called { outcome: Outcome::Done, taken: 0 });
+    assert_eq!(lent.letters(), [AFTER, "A", "FCD", "Gs"]);
+}
+
+#[test]
+fn a_run_goes_on_from_a_saved_form() {
+    let (list, data) = (list(), blocks("pq"));
+    let mut lent = Lent::new();
+    let mut saved = open(list.as_bytes(), lent.areas().lengths()).expect("a good list").save();
+    let mut stops = 0;
+    // As if the power went after each call: of all that is kept only areas and saved form are left.
+    loop {
+        let state = State::restore(&saved).expect("its own saved form");
+        let from = state.total() as usize;
+        let mut updater = Updater::resume(list.as_bytes(), lent.areas(), state);
+        let called = updater.call(&data[from..]);
+        if called.outcome != Outcome::Stop {
+            assert_eq!(called.outcome, Outcome::Done);
+            break;
+        }
+        saved = updater.into_state().save();
+        stops += 1;
+    }
+    assert_eq!(stops, 8);
+    assert_eq!(lent.letters(), [AFTER, "A", "FCD", "Gs"]);
+}
+
+#[test]
+fn a_saved_form_is_one_states() {
+    let mut fields = open(b"3\n0\n0\n0\n", Lengths { image: 0, stash: 0, work: 0, result: 0, patch: 0 }).expect("a good list").fields();
+    // Every byte of it is another, past the count too, and no number is possible.
+    for (k, stash) in fields.stashes.iter_mut().enumerate() {
+        stash.hash = std::array::from_fn(|j| (20 * k + j) as u8);
+        stash.blocks = usize::MAX - k;
+    }
+    (fields.count, fields.line, fields.at, fields.into) = (300, 1 << 40, 3, 1 << 63);
+    (fields.total, fields.ready, fields.stretches) = (usize::MAX, 1 << 33, 77);
+    (fields.refusal, fields.list) = (Refusal::new(20, usize::MAX, 13), 7);
+    fields.lengths = Lengths { image: 8, stash: 9, work: 10, result: 11, patch: usize::MAX };
+    let state = State::from(&fields);
+    let bytes: [u8; SAVED] = state.save();
+    assert_eq!(State::restore(&bytes), Ok(state.clone()));
+    // Another length, and none.
+    let refused = Err(Refusal::new(Refusal::NO_SAVED_FORM, 0, 0));
+    for other in [&bytes[1..], &bytes[..SAVED - 1], &[], &[&bytes[..], &[0]].concat()] {
+        assert_eq!(State::restore(other), refused);
+    }
+    // With another byte it is another state's, or no state's: five marks have two bytes each.
+    let mut none = 0;
+    for at in 0..SAVED {
+        let mut other = bytes;
+        other[at] ^= 0x80;
+        match State::restore(&other) {
+            Ok(read) => assert!(read != state && read.save() == other, "{at}"),
+            Err(refusal) => {
+                assert_eq!(Err(refusal), refused, "{at}");
+                none += 1;
+            }
+        }
+    }
+    assert_eq!(none, 10);
 }
 
 #[test]
@@ -113,6 +200,7 @@ fn every_field_crosses_as_itself() {
         stash.blocks = 1_000 + k;
     }
     (fields.count, fields.line, fields.at, fields.into) = (1, 2, 3, 4);
+    (fields.total, fields.ready, fields.stretches) = (14, 15, 16);
     (fields.refusal, fields.list) = (Refusal::new(0, 6, 13), 7);
     fields.lengths = Lengths { image: 8, stash: 9, work: 10, result: 11, patch: 12 };
     let mut state = State::from(&fields);
@@ -128,7 +216,7 @@ fn every_field_crosses_as_itself() {
     for part in ["count: 1,", "line: 2,", "at: 3,", "into: 4,", "refusal: None", "list: 7,", "image: 8,", "stash: 9,", "work: 10,", "result: 11,"] {
         assert!(shown.contains(part), "{part} in {shown}");
     }
-    for part in ["patch: 12 ", "blocks: 1000 "] {
+    for part in ["patch: 12 ", "blocks: 1000 ", "total: 14,", "ready: 15,", "stretches: 16,"] {
         assert!(shown.contains(part), "{part} in {shown}");
     }
     assert!(!shown.contains("blocks: 1001"), "{shown}");
@@ -153,16 +241,18 @@ fn a_state_is_changed_where_it_lies_and_nothing_beside_it() {
         state: State,
         after: [u8; 64],
     }
-    // All stashes but one are held, of no blocks; the list brings the last and frees it again.
-    let list = format!("3\n1\n256\n1\nstash {} 2,0,1\nnew 2,0,1\nfree {}\n", name("A"), name("A"));
-    let mut lent = Lent::new();
+    // All stashes but one are held; the list brings the last and frees it again.
+    let list = format!("3\n1\n256\n256\nstash {} 2,0,1\nnew 2,0,1\nfree {}\n", name("A"), name("A"));
+    let mut lent = Lent { stash: vec![0; MOST_STASHES * BLOCK], ..Lent::new() };
     let mut fields = open(list.as_bytes(), lent.areas().lengths()).expect("a good list").fields();
     for (k, stash) in fields.stashes.iter_mut().enumerate() {
-        stash.hash = [k as u8; 20];
+        (stash.hash, stash.blocks) = ([k as u8; 20], 1);
     }
     fields.count = MOST_STASHES - 1;
     let mut between = Between { before: [0xc3; 64], state: State::from(&fields), after: [0xc3; 64] };
     for (piece, called, count) in [
+        (blocks(""), STOP, MOST_STASHES - 1),
+        (blocks(""), STOP, MOST_STASHES),
         (blocks(""), Called { outcome: Outcome::More, taken: 0 }, MOST_STASHES),
         (blocks("p"), Called { outcome: Outcome::Done, taken: BLOCK }, MOST_STASHES - 1),
     ] {
@@ -333,6 +423,7 @@ fn a_finished_line_is_refused_as_any_other() {
 fn outcomes_in_words() {
     assert_eq!(Outcome::Done.to_string(), "done");
     assert_eq!(Outcome::More.to_string(), "more new data is needed");
+    assert_eq!(Outcome::Stop.to_string(), "stopped for saving");
     assert_eq!(Outcome::Refused(Refusal::new(4, 1, 0)).to_string(), "refused: line 1: the list's version is not 3 (refusal 4)");
 }
 

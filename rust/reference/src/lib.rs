@@ -1,10 +1,11 @@
-//! The rules of document 01, with of document 02, written twice, apart from the proved code: [`plain`] in plain loops,
-//! [`model`] slowly and by other means. The limits, the types and SHA-1 are all that the two share.
+//! The rules of document 01, with of document 02, written twice, apart from the proved code: [`plain`] in plain loops,
+//! [`model`] slowly and by other means. The limits, the types, SHA-1 and the saved form are all that the two share.
 
 #![forbid(unsafe_code)]
 
 pub mod model;
 pub mod plain;
+pub mod saved;
 mod sha1;
 
 pub use sha1::digest;
@@ -84,6 +85,8 @@ impl Areas<'_> {
 }
 
 /// What a run carries from call to call. Stash k of `count`, oldest first: its hash at `hashes[20 * k..]`, its blocks in `sizes[k]`.
+/// `total` is what all calls took, modulo 2^64; `ready` says, by any number but 0, that the work area, for a `bsdiff` the result area, is filled and
+/// only to be written from; `stretches` are those that the line's `free` has done.
 #[derive(Clone, Copy, PartialEq, Eq, Debug)]
 pub struct State {
     pub hashes: [u8; 20 * MOST_STASHES],
@@ -94,6 +97,9 @@ pub struct State {
     pub into: usize,
     pub refusal: Refusal,
     pub lengths: Lengths,
+    pub total: u64,
+    pub ready: usize,
+    pub stretches: usize,
 }
 
 impl State {
@@ -107,14 +113,18 @@ impl State {
         into: 0,
         refusal: Refusal { number: 0, line: 0, byte: 0 },
         lengths: Lengths { list: 0, image: 0, stash: 0, work: 0, result: 0, patch: 0 },
+        total: 0,
+        ready: 0,
+        stretches: 0,
     };
 }
 
-/// How a call ended.
+/// How a call ended. At a stop the state may be saved; the next call goes on with the bytes that were not taken.
 #[derive(Clone, Copy, PartialEq, Eq, Debug)]
 pub enum Outcome {
     Done,
     More,
+    Stop,
     Refused(Refusal),
 }
 
@@ -122,7 +132,7 @@ impl Outcome {
     /// The number it is refused with; 0 where it is not.
     pub fn number(&self) -> usize {
         match self {
-            Outcome::Done | Outcome::More => 0,
+            Outcome::Done | Outcome::More | Outcome::Stop => 0,
             Outcome::Refused(refusal) => refusal.number,
         }
     }

@@ -5,7 +5,6 @@ use mathlib.Core.Path.{_≡_, subst}
 use native.Mathlib.Omega.{arith}
 use lib.ListN.{length}
 use Rattle.io.specs.Counts.{Counts}
-use Rattle.updater.proofs.CallLaws.{call-most}
 use Rattle.package.specs.Fills.{Fills}
 use Rattle.decisions.specs.Program.{areaBytes, pieceBytes}
 use borrow.Author.Needs.{needs}
@@ -26,9 +25,9 @@ abbrev μ-loop : tie.MeasureT-loop
 μ-loop list image₀ patch piece₀ first «data» data-path stash₀ work₀ result₀ s₀ n₀ taken₀ turns₀ image piece stash work result s n taken turns = turns
 
 -- what is taken in a turn
-within : (c : tie.After-s Inv-loop μ-loop) → c .before .before .before .before .before .before .call .result .taken ≤ pieceBytes
+within : (c : tie.After-s Inv-loop μ-loop) → c .before .before .before .before .before .before .call-on .result .taken ≤ pieceBytes
 within c =
-    let t = call-most _ _ _ (c .before .before .before .before .before .before .call .ensures) in
+    let t = c .before .before .before .before .before .before .call-on .ensures in
     let v = c .before .before .before .before .before .before .before .before .before .before .before .before .before .loop .inv in
     omega arith
 
@@ -39,23 +38,23 @@ counted c = subst (Fills _) (c .next .given .1) (c .before .before .before .befo
 loop-holds : tie.Need-loop-holds Inv-loop μ-loop
 loop-holds c = search needs
 
-slice-aggregate-call : tie.Need-slice-aggregate-call Inv-loop μ-loop
-slice-aggregate-call c = search needs
+slice-aggregate-call-on : tie.Need-slice-aggregate-call-on Inv-loop μ-loop
+slice-aggregate-call-on c = search needs
 
-slice-aggregate-call-2 : tie.Need-slice-aggregate-call-2 Inv-loop μ-loop
-slice-aggregate-call-2 c = search needs
+slice-aggregate-call-on-2 : tie.Need-slice-aggregate-call-on-2 Inv-loop μ-loop
+slice-aggregate-call-on-2 c = search needs
 
-slice-reshare-prefix-call : tie.Need-slice-reshare-prefix-call Inv-loop μ-loop
-slice-reshare-prefix-call c = search needs
+slice-reshare-prefix-call-on : tie.Need-slice-reshare-prefix-call-on Inv-loop μ-loop
+slice-reshare-prefix-call-on c = search needs
 
-slice-aggregate-call-3 : tie.Need-slice-aggregate-call-3 Inv-loop μ-loop
-slice-aggregate-call-3 c = search needs
+slice-aggregate-call-on-3 : tie.Need-slice-aggregate-call-on-3 Inv-loop μ-loop
+slice-aggregate-call-on-3 c = search needs
 
-slice-aggregate-call-4 : tie.Need-slice-aggregate-call-4 Inv-loop μ-loop
-slice-aggregate-call-4 c = search needs
+slice-aggregate-call-on-4 : tie.Need-slice-aggregate-call-on-4 Inv-loop μ-loop
+slice-aggregate-call-on-4 c = search needs
 
-call-requires : tie.Need-call-requires Inv-loop μ-loop
-call-requires c κs = search needs
+call-on-requires : tie.Need-call-on-requires Inv-loop μ-loop
+call-on-requires c κs = search needs
 
 add-taken : tie.Need-add-taken Inv-loop μ-loop
 add-taken c = let w = within c in omega arith
@@ -105,7 +104,7 @@ loop-again c =
     let l = k .before .before .before .before .before .before in
     let v = l .before .loop .inv in
     let w = within s in
-    (omega (arith, k .call .kept .1 .0), omega arith, omega arith, omega arith, omega (arith, f .fill .kept .1 .1 .0), counted n, omega (arith, l .loop-test .taken))
+    (omega (arith, k .call-on .kept .1 .0), omega arith, omega arith, omega arith, omega (arith, f .fill .kept .1 .1 .0), counted n, omega (arith, l .loop-test .taken))
 
 same-length-5 : tie.Need-same-length-5 Inv-loop μ-loop
 same-length-5 c = search needs
@@ -123,12 +122,12 @@ run-spec =
     Inv-loop
     μ-loop
     loop-holds
-    slice-aggregate-call
-    slice-aggregate-call-2
-    slice-aggregate-call-3
-    slice-reshare-prefix-call
-    slice-aggregate-call-4
-    call-requires
+    slice-aggregate-call-on
+    slice-aggregate-call-on-2
+    slice-aggregate-call-on-3
+    slice-reshare-prefix-call-on
+    slice-aggregate-call-on-4
+    call-on-requires
     add-taken
     calls-on-requires
     same-length

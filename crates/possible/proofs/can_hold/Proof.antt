@@ -9,7 +9,7 @@ use borrow.Author.Needs.{needs}
 use borrow.Author.Tests.{le-leb, lt-leb}
 use denote.Ref.{now}
 use Rattle.state.specs.Limits.{mostStashes}
-use Rattle.state.specs.Stashes.{Table, tableAt, heldIn, heldTwice, blocksHeld}
+use Rattle.state.specs.Stashes.{Table, tableAt, heldIn, heldTwice, holdsEmpty, blocksHeld}
 use Rattle.state.specs.Sums.{bound, bounded}
 use Rattle.state.proofs.TableLaws.{take-held}
 use Rattle.rules.proofs.BoundLaws.{leb-bounded}
@@ -22,11 +22,17 @@ leb-blocks : (t : Table) (n : ℕ) {r : ℕ} → r ≡ bounded (blocksHeld (take
     → leb r n ≡ leb (blocksHeld (heldIn t)) n
 leb-blocks t n e l = rw (e, leb-bounded (blocksHeld (take mostStashes (heldIn t))) n l, take-held t)
 
-abbrev table : tie.After-holds-twice → Table
-table c = let a = c .before .before .args in tableAt (now (a .hashes)) (now (a .sizes)) (a .count)
+abbrev else-1 : tie.Else2 → tie.Else1
+else-1 c = c .before .before
 
-twice-is : (c : tie.After-holds-twice) → heldTwice (heldIn (table c)) ≡ c .holds-twice .result
+abbrev table : tie.Else1 → Table
+table c = let a = c .before .args in tableAt (now (a .hashes)) (now (a .sizes)) (a .count)
+
+twice-is : (c : tie.After-holds-twice) → heldTwice (heldIn (table (c .before))) ≡ c .holds-twice .result
 twice-is c = sym (c .holds-twice .ensures _)
+
+empty-is : (c : tie.After-holds-empty) → holdsEmpty (heldIn (table (else-1 (c .before)))) ≡ c .holds-empty .result
+empty-is c = sym (c .holds-empty .ensures _)
 
 returns : tie.Need-returns
 unfolding canHold
@@ -39,22 +45,43 @@ returns-2 : tie.Need-returns-2
 unfolding canHold
 returns-2 c = rw (le-leb _ _ (c .before .before .if1 .left), twice-is (c .before), c .if2 .taken)
 
+holds-empty-requires : tie.Need-holds-empty-requires
+holds-empty-requires c κs = search needs
+
+returns-3 : tie.Need-returns-3
+unfolding canHold
+returns-3 c =
+    let k = c .before .before in
+    rw (le-leb _ _ (else-1 k .if1 .left), twice-is (k .before), k .if2 .left, empty-is (c .before), c .if3 .taken)
+
 blocks-before-requires : tie.Need-blocks-before-requires
 blocks-before-requires c κs = search needs
 
 cast-result : tie.Need-cast-result
 cast-result c = search needs
 
-returns-3 : tie.Need-returns-3
+returns-4 : tie.Need-returns-4
 unfolding canHold
-returns-3 c =
+returns-4 c =
+    let j = c .before .before in
+    let k = j .before .before in
     rw (
-      le-leb _ _ (c .before .before .before .before .if1 .left),
-      twice-is (c .before .before .before),
-      c .before .before .if2 .left,
+      le-leb _ _ (else-1 k .if1 .left),
+      twice-is (k .before),
+      k .if2 .left,
+      empty-is (j .before),
+      j .if3 .left,
     ) (leb-blocks _ _ (c .before .blocks-before .ensures _) (omega arith))
 
 pub can-hold-spec : {M : Type 1} → statement M
 can-hold-spec =
     tie.close
-    (tie.spec returns holds-twice-requires returns-2 blocks-before-requires cast-result returns-3)
+    (tie.spec
+    returns
+    holds-twice-requires
+    returns-2
+    holds-empty-requires
+    returns-3
+    blocks-before-requires
+    cast-result
+    returns-4)

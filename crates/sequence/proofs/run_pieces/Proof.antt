@@ -1,24 +1,24 @@
--- `sequence::run_pieces` meets its contract: the calls that are left come, with what was taken so far, to what all of them come to.
+-- `sequence::run_pieces` meets its contract: the bytes that are left come, with what was taken so far, to what all of them come to.
 -- Assumes nothing.
 use mathlib.Core.Path.{_≡_, refl, _∙_}
-use Prim.Native.Nat.{_-_}
+use Prim.Native.Nat.{_-_, _≤_}
 use native.Mathlib.Omega.{arith}
 use borrow.Author.Needs.{needs}
 use lib.ListN.{length}
 use Rattle.updater.specs.Areas.{areasOf}
 use Rattle.updater.specs.Steps.{configOf}
-use Rattle.sequence.proofs.CutLaws.{Cutting, cutting-start, cutting-more, cutting-ends, total-within, run-refused, run-accepted, with-claim}
+use Rattle.sequence.proofs.CutLaws.{Cutting, cutting-start, cutting-state, cutting-within, cutting-more, cutting-ends, run-refused, run-accepted, with-claim}
 use Rattle.sequence.proofs.run_pieces.Statement.{statement}
 use Rattle.sequence.proofs.run_pieces.Tie as tie
 
--- The areas keep their lengths, and the calls that are left come to what all of them come to.
+-- The areas keep their lengths, and the bytes that are left come to what all of them come to.
 abbrev Inv-loop : tie.InvT-loop
 Inv-loop list image₀ stash₀ work₀ result₀ patch bytes cuts s₀ total₀ from₀ k₀ image stash work result s total from k =
     (length image ≡ length image₀)
     × (length stash ≡ length stash₀)
     × (length work ≡ length work₀)
     × (length result ≡ length result₀)
-    × Cutting list bytes cuts (configOf (areasOf image₀ stash₀ work₀ result₀ patch) s₀) (configOf (areasOf image stash work result patch) s) from k total
+    × Cutting list bytes (configOf (areasOf image₀ stash₀ work₀ result₀ patch) s₀) (configOf (areasOf image stash work result patch) s) from total
 
 abbrev μ-loop : tie.MeasureT-loop
 μ-loop list image₀ stash₀ work₀ result₀ patch bytes cuts s₀ total₀ from₀ k₀ image stash work result s total from k = length cuts - k
@@ -28,19 +28,19 @@ abbrev μ-loop : tie.MeasureT-loop
 abbrev start : tie.Else1 Inv-loop μ-loop → tie.Start Inv-loop μ-loop
 start c = c .before .before .before .before .before .before .before .before .before .before .before .before
 
-abbrev cut : tie.After-call Inv-loop μ-loop → tie.After-piece-end Inv-loop μ-loop
+abbrev cut : tie.After-call-on Inv-loop μ-loop → tie.After-piece-end Inv-loop μ-loop
 cut c = c .before .before .before .before .before .before
 
 abbrev turn : tie.After-piece-end Inv-loop μ-loop → tie.In-loop Inv-loop μ-loop
 turn c = c .before .before
 
-abbrev called : tie.After-struct-known2 Inv-loop μ-loop → tie.After-call Inv-loop μ-loop
+abbrev called : tie.After-struct-known2 Inv-loop μ-loop → tie.After-call-on Inv-loop μ-loop
 called c = c .before .before .before .before .before .before .before .before .before .before
 
-abbrev left : tie.After-call2 Inv-loop μ-loop → tie.After-loop Inv-loop μ-loop
+abbrev left : tie.After-call-on2 Inv-loop μ-loop → tie.After-loop Inv-loop μ-loop
 left c = c .before .before .before .before .before .before
 
-abbrev last : tie.After-struct-known3 Inv-loop μ-loop → tie.After-call2 Inv-loop μ-loop
+abbrev last : tie.After-struct-known3 Inv-loop μ-loop → tie.After-call-on2 Inv-loop μ-loop
 last c = c .before .before .before .before .before .before .before .before .before .before
 
 -- ---- the opening
@@ -49,12 +49,12 @@ open-requires : tie.Need-open-requires Inv-loop μ-loop
 open-requires c κs = tt
 
 returns : tie.Need-returns Inv-loop μ-loop
-returns c = with-claim _ _ _ _ (run-refused _ _ _ _ (c .before .before .before .«open» .ensures) (c .if1 .taken))
+returns c = with-claim _ _ _ (run-refused _ _ _ (c .before .before .before .«open» .ensures) (c .if1 .taken))
 
 -- ---- a turn
 
 loop-holds : tie.Need-loop-holds Inv-loop μ-loop
-loop-holds c = (refl, refl, refl, refl, cutting-start _ _ _ _)
+loop-holds c = (refl, refl, refl, refl, cutting-start _ _ _ (c .before .before .before .«open» .ensures) (c .if1 .left))
 
 mul-piece-end : tie.Need-mul-piece-end Inv-loop μ-loop
 mul-piece-end c = omega (arith, start (c .before .before) .good .1 .1 .1 .1 .1 .1 .1 .0)
@@ -65,25 +65,30 @@ shared-slice-read-piece-end c = omega arith
 piece-end-requires : tie.Need-piece-end-requires Inv-loop μ-loop
 piece-end-requires c κs = omega arith
 
-sub-call : tie.Need-sub-call Inv-loop μ-loop
-sub-call c = omega arith
+sub-call-on : tie.Need-sub-call-on Inv-loop μ-loop
+sub-call-on c = omega arith
 
-part-call-start : tie.Need-part-call-start Inv-loop μ-loop
-part-call-start c = search needs
+part-call-on-start : tie.Need-part-call-on-start Inv-loop μ-loop
+part-call-on-start c = search needs
 
-part-call-end : tie.Need-part-call-end Inv-loop μ-loop
-part-call-end c = search needs
+part-call-on-end : tie.Need-part-call-on-end Inv-loop μ-loop
+part-call-on-end c = search needs
 
-call-requires : tie.Need-call-requires Inv-loop μ-loop
-call-requires c κs = tt
+call-on-requires : tie.Need-call-on-requires Inv-loop μ-loop
+call-on-requires c κs = cutting-state _ _ (turn (c .before .before .before .before .before) .before .loop .inv .4)
+
+-- a piece ends within the data
+ends-within : (c : tie.After-piece-end Inv-loop μ-loop) →
+    (turn c .before .loop .from ≤ c .piece-end .result) × (c .piece-end .result ≤ length (start (turn c .before .before) .args .bytes .now))
+ends-within c = let w = turn c .before .loop .inv .4 .within in let e = c .piece-end .ensures in (omega arith, omega arith)
 
 add-total : tie.Need-add-total Inv-loop μ-loop
 add-total c =
     let d = called c in
     let e = cut d in
     let l = turn e .before in
-    omega
-    (arith, total-within _ _ _ (l .loop .inv .4) (e .piece-end .result - l .loop .from) (d .call .ensures), start (l .before) .good .1 .1 .1 .1 .1 .1 .0 .0)
+    let w = ends-within e in
+    omega (arith, cutting-within _ _ (l .loop .inv .4) (w .0) (w .1) (d .call-on .ensures), start (l .before) .good .1 .1 .1 .1 .1 .1 .0 .0)
 
 add-k : tie.Need-add-k Inv-loop μ-loop
 add-k c = omega (arith, start (turn (cut (called c)) .before .before) .good .1 .1 .1 .1 .1 .1 .1 .0 .0)
@@ -97,35 +102,37 @@ loop-again c =
     let e = cut d in
     let t = turn e in
     let i = t .before .loop .inv in
-    let r = d .call .ensures in (
-      d .call .kept .1 .0 ∙ i .0,
-      d .call .kept .1 .1 .0 ∙ i .1,
-      d .call .kept .1 .1 .1 .0 ∙ i .2,
-      d .call .kept .1 .1 .1 .1 .0 ∙ i .3,
-      cutting-more _ _ _ (i .4) (t .loop-test .taken) (e .piece-end .ensures) r,
+    let w = ends-within e in (
+      d .call-on .kept .1 .0 ∙ i .0,
+      d .call-on .kept .1 .1 .0 ∙ i .1,
+      d .call-on .kept .1 .1 .1 .0 ∙ i .2,
+      d .call-on .kept .1 .1 .1 .1 .0 ∙ i .3,
+      cutting-more _ _ (i .4) (w .0) (w .1) (d .call-on .ensures),
     )
 
 -- ---- the last call
 
-sub-call-2 : tie.Need-sub-call-2 Inv-loop μ-loop
-sub-call-2 c = omega arith
+sub-call-on-2 : tie.Need-sub-call-on-2 Inv-loop μ-loop
+sub-call-on-2 c = omega arith
 
-part-call-start-2 : tie.Need-part-call-start-2 Inv-loop μ-loop
-part-call-start-2 c = search needs
+part-call-on-start-2 : tie.Need-part-call-on-start-2 Inv-loop μ-loop
+part-call-on-start-2 c = search needs
 
-part-call-end-2 : tie.Need-part-call-end-2 Inv-loop μ-loop
-part-call-end-2 c = search needs
+part-call-on-end-2 : tie.Need-part-call-on-end-2 Inv-loop μ-loop
+part-call-on-end-2 c = search needs
 
-call-requires-2 : tie.Need-call-requires-2 Inv-loop μ-loop
-call-requires-2 c κs = tt
+call-on-requires-2 : tie.Need-call-on-requires-2 Inv-loop μ-loop
+call-on-requires-2 c κs = cutting-state _ _ (c .before .before .before .before .before .before .loop .inv .4)
 
 add-t21 : tie.Need-add-t21 Inv-loop μ-loop
 add-t21 c =
     let d = last c in
     let l = left d .before in
-    let s = start (l .before) in
-    omega
-    (arith, total-within _ _ _ (l .loop .inv .4) (length (s .args .bytes .now) - l .loop .from) (d .call2 .ensures), s .good .1 .1 .1 .1 .1 .1 .0 .0)
+    omega (
+      arith,
+      cutting-within _ _ (l .loop .inv .4) (l .loop .inv .4 .within) (omega arith) (d .call-on2 .ensures),
+      start (l .before) .good .1 .1 .1 .1 .1 .1 .0 .0,
+    )
 
 same-length : tie.Need-same-length Inv-loop μ-loop
 same-length c = search needs
@@ -144,10 +151,9 @@ returns-2 c =
     let d = last c in
     let t = left d in
     let u = t .before .before in
-    let r = d .call2 .ensures in
-    with-claim _ _ _ _
-    (run-accepted _ _ _ _ (u .before .before .before .«open» .ensures) (u .if1 .left)
-    (cutting-ends _ _ _ (t .before .loop .inv .4) (t .loop-test .left) r))
+    with-claim _ _ _
+    (run-accepted _ _ _ (u .before .before .before .«open» .ensures) (u .if1 .left)
+    (cutting-ends _ _ (t .before .loop .inv .4) (d .call-on2 .ensures)))
 
 pub run-pieces-spec : {M : Type 1} → statement M
 run-pieces-spec =
@@ -161,18 +167,18 @@ run-pieces-spec =
     mul-piece-end
     shared-slice-read-piece-end
     piece-end-requires
-    sub-call
-    part-call-start
-    part-call-end
-    call-requires
+    sub-call-on
+    part-call-on-start
+    part-call-on-end
+    call-on-requires
     add-total
     add-k
     loop-less
     loop-again
-    sub-call-2
-    part-call-start-2
-    part-call-end-2
-    call-requires-2
+    sub-call-on-2
+    part-call-on-start-2
+    part-call-on-end-2
+    call-on-requires-2
     add-t21
     same-length
     same-length-2

@@ -44,6 +44,7 @@ fn measure<S: Side>(wanted: impl Fn(&str) -> bool) {
     }
     if wanted("calls") {
         calls::<S>();
+        stops::<S>();
     }
     if wanted("new") {
         new_data::<S>();
@@ -265,7 +266,7 @@ fn moves<S: Side>() {
     }
 }
 
-/// Opens the list and runs it to its end, from this image.
+/// Opens the list and runs it to its end, from this image, past every stop.
 fn run_times<S: Side>(list: &[u8], start: &[u8], areas: Areas) -> Duration {
     run_to::<S>(0, list, start, areas)
 }
@@ -275,8 +276,13 @@ fn run_to<S: Side>(number: usize, list: &[u8], start: &[u8], mut areas: Areas) -
     areas.image.copy_from_slice(start);
     timed(|| {
         let Ok(mut state) = S::open(list, areas.lengths()) else { panic!("the list does not open") };
-        let (outcome, _) = S::call(list, areas.reborrow(), &[], &mut state);
-        assert!(outcome.number() == number && outcome != Outcome::More);
+        loop {
+            let (outcome, _) = S::call(list, areas.reborrow(), &[], &mut state);
+            if outcome != Outcome::Stop {
+                assert!(outcome.number() == number && outcome != Outcome::More);
+                break;
+            }
+        }
     })
 }
 
@@ -492,6 +498,36 @@ fn calls<S: Side>() {
             line(&format!("a call with nothing, {held} stashes{name}"), times, 0);
         }
     }
+}
+
+/// Calls that each move a stretch of one block, and stop: what a stop costs beside the block. A long list before it is gone through at every call.
+fn stops<S: Side>() {
+    const STRETCHES: u32 = 1_000;
+    let held = 1 + STRETCHES as usize;
+    for (name, before) in [("", 0), (", a 1 MiB list before it", 1 << 20)] {
+        let lines = "erase 2,0,1\n".repeat(before / 12);
+        let hash = digest(b"oldest");
+        let list = format!("3\n0\n2\n{held}\n{lines}free {}\n", hex(&hash)).into_bytes();
+        let mut state = Plain.open(b"3\n0\n0\n0\n", Rooms { image: BLOCK, stash: held * BLOCK, ..Rooms::default() });
+        state.lengths.list = list.len();
+        (state.at, state.line) = (list.len() - 46, 5 + before / 12);
+        state.hashes[..20].copy_from_slice(&hash);
+        (state.sizes[0], state.sizes[1], state.count) = (1, STRETCHES as usize, 2);
+        let times = turns(|| stop_times::<S>(&list, &state, STRETCHES), || stop_times::<Plain>(&list, &state, STRETCHES));
+        line(&format!("a stop after one block{name}"), times, 0);
+    }
+}
+
+/// One of so many calls from this state, each of which stops.
+fn stop_times<S: Side>(list: &[u8], state: &reference::State, calls: u32) -> Duration {
+    let (mut image, mut stash) = (vec![0; state.lengths.image], some_bytes(state.lengths.stash));
+    let after = stash[BLOCK..].to_vec();
+    let mut areas = Areas { image: &mut image, stash: &mut stash, work: &mut [], result: &mut [], patch: &[] };
+    let mut state = S::state(state);
+    let time = timed(|| (0..calls).for_each(|_| assert_eq!(S::call(black_box(list), areas.reborrow(), &[], &mut state), (Outcome::Stop, 0))));
+    assert_eq!(S::call(list, areas.reborrow(), &[], &mut state), (Outcome::Done, 0));
+    assert!(stash[..after.len()] == after, "the stretches differ");
+    time / calls
 }
 
 /// One of a thousand calls with no data from this state, which they leave as it is.

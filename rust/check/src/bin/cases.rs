@@ -1,23 +1,26 @@
-//! Cases made apart from the project, through the library and both implementations of the reference: openings, single calls and sequences of
-//! calls with everything that stands after each, and sparse files with the image before and after.
-//! usage: tests/unpack CASES | cases
+//! Cases made apart from the project, through the library and both implementations of the reference: openings, single calls, sequences of calls
+//! with everything that stands after each, runs taken up again after a cut, saved states, and sparse files with the image before and after.
+//! usage: tests/unpack CASES | cases [--self]
+//! --self leaves the library out.
 
 use check::record::{Read, Record};
 use check::{hex, Implementation, Library, Model, Plain};
-use reference::{Areas, Refusal, Rooms, State};
+use reference::{Areas, Outcome, Refusal, Rooms, State};
 use std::fmt::Debug;
 use std::io::Read as _;
 
 fn main() {
     let mut text = String::new();
-    if std::env::args().len() > 1 || std::io::stdin().read_to_string(&mut text).is_err() {
-        eprintln!("usage: tests/unpack CASES | cases");
+    let words: Vec<String> = std::env::args().skip(1).collect();
+    let itself = words == ["--self"];
+    if !(itself || words.is_empty()) || std::io::stdin().read_to_string(&mut text).is_err() {
+        eprintln!("usage: tests/unpack CASES | cases [--self]");
         std::process::exit(2);
     }
     let all: [(&str, &dyn Implementation); 3] = [("library", &Library), ("plain", &Plain), ("model", &Model)];
     let (mut passed, mut failed) = (0, 0);
     for case in Record::all(&text) {
-        for (name, on) in all {
+        for (name, on) in all.into_iter().skip(itself as usize) {
             match agrees(&case, on) {
                 Ok(()) => passed += 1,
                 Err(difference) => {
@@ -38,6 +41,7 @@ fn agrees(case: &Record, on: &dyn Implementation) -> Read<()> {
         Ok("open") => opening(case, on),
         Ok("call") => one_call(case, on),
         Ok("seq") => sequence(case, on),
+        Ok("saved") => saved(case, on),
         Ok(other) => Err(format!("{other} is no kind of case")),
         // Those of sparse files have none.
         Err(_) => sparse(case, on),
@@ -99,6 +103,15 @@ impl Lent {
     fn written(&self) -> [(&str, &[u8]); 4] {
         [("image", &self.image), ("stash", &self.stash), ("work", &self.work), ("result", &self.result)]
     }
+
+    /// Each has the digest that the case has for it below this key.
+    fn same_digests(&self, case: &Record, on: &dyn Implementation, key: &str) -> Read<()> {
+        for (name, area) in self.written() {
+            let key = format!("{key}.{name}");
+            same(&key, hex(&on.digest(area)).as_str(), case.text(&key)?)?;
+        }
+        Ok(())
+    }
 }
 
 /// A call from any state, and all bytes after it.
@@ -115,32 +128,74 @@ fn one_call(case: &Record, on: &dyn Implementation) -> Read<()> {
     same_bytes("patch", &lent.patch, &case.bytes("patch")?)
 }
 
+/// Calls from the opening, or from a state that was saved at a stop, over areas as a cut may have left them.
 fn sequence(case: &Record, on: &dyn Implementation) -> Read<()> {
     let (list, new) = (case.bytes("list")?, case.bytes("new")?);
     let mut lent = Lent::of(case)?;
-    let mut state = on.open(&list, lent.areas().rooms());
-    same_state("the opening's state", state, case.state("state")?)?;
-    let mut rest = &new[..];
-    let mut cuts = case.row("cuts")?;
+    let mut state = case.state("state")?;
+    if case.has("uncut.outcome.0") {
+        restart(case, on, &list, &new, state)?;
+    } else {
+        same_state("the opening's state", on.open(&list, lent.areas().rooms()), state)?;
+    }
+    let mut pieces = case.row("pieces")?;
+    let mut not_taken = None;
     for step in case.row("steps")? {
-        let cut: usize = case.number(&cuts.next().ok_or("more steps than cuts")?)?;
-        let (piece, after) = rest.split_at(cut.min(rest.len()));
-        rest = after;
+        let key = pieces.next().ok_or("more steps than pieces")?;
+        let (from, length): (usize, usize) = (case.number(&format!("{key}.0"))?, case.number(&format!("{key}.1"))?);
+        let piece = from.checked_add(length).and_then(|end| new.get(from..end)).ok_or("a piece past the new data")?;
+        same("where the piece after a stop begins", from, not_taken.unwrap_or(from))?;
         let of = |name: &str| format!("{step}.{name}");
         let answer = on.call(&list, lent.areas(), piece, state);
         state = answer.state;
+        not_taken = (answer.outcome == Outcome::Stop).then_some(from + answer.taken);
         same(&of("outcome"), answer.outcome, case.outcome(&of("outcome"))?)?;
         same(&of("taken"), answer.taken, case.number(&of("taken"))?)?;
         same_state(&of("state"), named(state), case.state(&of("state"))?)?;
-        for (name, area) in lent.written() {
-            same(&of(name), hex(&on.digest(area)).as_str(), case.text(&of(name))?)?;
-        }
+        lent.same_digests(case, on, &step)?;
         same_bytes("patch", &lent.patch, &case.bytes("patch")?)?;
     }
-    match cuts.next() {
-        Some(_) => Err("more cuts than steps".into()),
+    match pieces.next() {
+        Some(_) => Err("more pieces than steps".into()),
         None => Ok(()),
     }
+}
+
+/// The run that was cut ends as the one that was not, with the new data from the state's total on; with its state too, where the case has it.
+fn restart(case: &Record, on: &dyn Implementation, list: &[u8], new: &[u8], state: State) -> Read<()> {
+    let mut lent = Lent::of(case)?;
+    let rest = usize::try_from(state.total).ok().and_then(|total| new.get(total..)).ok_or("a total past the new data")?;
+    let answer = on.call_on(list, lent.areas(), rest, state);
+    same("the outcome after the cut", answer.outcome, case.outcome("uncut.outcome")?)?;
+    if case.has("uncut.state.pos") {
+        same_state("the state after the cut", named(answer.state), case.state("uncut.state")?)?;
+    }
+    lent.same_digests(case, on, "uncut")
+}
+
+/// Saved and read back it is the same state, also past its stashes; other bytes are refused with 20, or are the saved form of what is read.
+fn saved(case: &Record, on: &dyn Implementation) -> Read<()> {
+    let state = case.state("state")?;
+    let form = on.save(&state);
+    same_bytes("the saved form", &form, &reference::saved::save(&state))?;
+    match on.restore(&form) {
+        Ok(back) => same_state("the state that is read back", back, state)?,
+        Err(number) => return Err(format!("its own saved form is refused with {number}")),
+    }
+    let changed = (0..form.len()).flat_map(|at| [1, 0x80, 0xff].map(|bits| (at, bits))).map(|(at, bits)| {
+        let mut other = form.clone();
+        other[at] ^= bits;
+        other
+    });
+    let shorter = [&form[1..], &form[..form.len() - 1], &[]].map(<[u8]>::to_vec);
+    let longer = [0, 1, 0xff].map(|byte| [&form[..], &[byte]].concat());
+    for other in changed.chain(shorter).chain(longer) {
+        match on.restore(&other) {
+            Err(number) => same("the number of other bytes", number, 20)?,
+            Ok(back) => same("whether other bytes are what is saved of their state", on.save(&back) == other, true)?,
+        }
+    }
+    Ok(())
 }
 
 /// A file, the image before it, and the image after it where it is loaded: as a whole, or zeros and what changes of them.

@@ -55,7 +55,11 @@ fn usage() -> ! {
 fn real(other: &dyn Implementation, seed: u64, commands: usize) -> Result<(), String> {
     let mut rng = Rng::new(seed);
     let mut blocks = Blocks::new();
-    let sizes = Sizes { image: 65_536, area: MOST_AREA, commands, most: 8_192, bytes: 4_100_000, patch: 48 << 20, often: 30, stashes: 0 };
+    // A run stops some twice a line, and after every stretch of a `free`; each call then goes through the list up to its line to count it. A block
+    // freed before 32,767 younger ones would be as many calls over megabytes of list, minutes for one line, so no `free` has more than 40
+    // stretches here, and the list is not quite as long as one may be: the whole stays within a minute of processor time.
+    let (bytes, stretches) = (3_400_000, 40);
+    let sizes = Sizes { image: 65_536, area: MOST_AREA, commands, most: 8_192, bytes, patch: 48 << 20, often: 30, stashes: 0, stretches, frees: 0 };
     let mut world = World::good(&mut rng, &mut blocks, &sizes);
     (world.stash, world.work, world.result) = (MOST_AREA, MOST_AREA, MOST_RESULT);
     let list = world.list();
@@ -97,10 +101,10 @@ fn real(other: &dyn Implementation, seed: u64, commands: usize) -> Result<(), St
         rest = after;
         calls += 1;
         let start = Instant::now();
-        let answer = Plain.call(&list, ours.reborrow(), piece, state);
+        let answer = Plain.call_on(&list, ours.reborrow(), piece, state);
         timed(0, start);
         let start = Instant::now();
-        let others = other.call(&list, theirs.reborrow(), piece, state);
+        let others = other.call_on(&list, theirs.reborrow(), piece, state);
         timed(1, start);
         if answer != others {
             return Err(format!("call {calls}: {} and {}", said(&answer), said(&others)));
@@ -112,7 +116,7 @@ fn real(other: &dyn Implementation, seed: u64, commands: usize) -> Result<(), St
         match answer.outcome {
             Outcome::Done => break,
             Outcome::More => {}
-            Outcome::Refused(_) => return Err(format!("call {calls}: {}", said(&answer))),
+            Outcome::Stop | Outcome::Refused(_) => return Err(format!("call {calls}: {}", said(&answer))),
         }
     }
     println!("done in {calls} calls; plain {:.2} s, other {:.2} s", times[0].as_secs_f64(), times[1].as_secs_f64());

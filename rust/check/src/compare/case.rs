@@ -1,8 +1,8 @@
 //! One seeded case: a list, good or spoiled, opened and called.
 
 use super::{answer_text, Checker, Lent};
-use crate::generate::{damage, disturb, line_starts, other_header, same_at_the_ends, Pieces, Rng, Sizes, World};
-use reference::{model, plain, Outcome, State, BLOCK, MOST_STASHES};
+use crate::generate::{damage, disturb, line_starts, mark_line, other_header, same_at_the_ends, Pieces, Rng, Sizes, World};
+use reference::{model, plain, Answer, Lengths, Outcome, State, BLOCK, MOST_STASHES};
 use std::iter::repeat;
 
 impl Checker<'_> {
@@ -10,6 +10,7 @@ impl Checker<'_> {
     pub(super) fn list_case(&mut self, seed: u64, index: u64) -> Result<(), String> {
         let mut rng = Rng::of_case(seed, index);
         self.behind = rng.percent(70);
+        self.thrice = rng.one_in(4);
         if rng.one_in(20) {
             self.digest(&mut rng)?;
         }
@@ -41,7 +42,10 @@ impl Checker<'_> {
             self.ill_lines(&mut rng, &world, rooms)?;
         }
         let mut state = self.open(&lent.list, rooms)?;
-        let accepted = state.refusal.number == 0;
+        let (accepted, wrong) = (state.refusal.number == 0, state.refusal.line);
+        if sizes.stashes == 0 && sizes.most < 100 && (wrong > 4 || accepted && rng.one_in(3)) {
+            self.marked(&mut rng, &lent, wrong)?;
+        }
         if !accepted {
             match rng.below(10) {
                 0 | 1 => {}
@@ -77,6 +81,14 @@ impl Checker<'_> {
         if !accepted && state.refusal.number != 0 && rng.percent(50) {
             return self.run(&lent, &pieces);
         }
+        if accepted && rng.one_in(12) {
+            // From here on the total passes 2^64, or the run is within some line.
+            match rng.below(3) {
+                0 => state.total = u64::MAX - rng.below(5_000) as u64,
+                _ => disturb(&mut rng, &mut state, &lent.list),
+            }
+            return self.calls(&mut rng, &world, lent, &pieces, state, false);
+        }
         let trouble = rng.percent(if accepted { 30 } else { 20 });
         if accepted && !trouble && rng.percent(40) {
             return self.sequence(&mut rng, lent, &pieces, state);
@@ -84,33 +96,47 @@ impl Checker<'_> {
         self.calls(&mut rng, &world, lent, &pieces, state, trouble)
     }
 
-    /// All pieces and sometimes a call or two more; with trouble, something is altered before one of them.
+    /// Single calls from states that stand within a line: the one that is wrong, if there is one, else any.
+    fn marked(&mut self, rng: &mut Rng, lent: &Lent, wrong: usize) -> Result<(), String> {
+        let opened = State { lengths: Lengths::of(&lent.list, lent.rooms()), ..State::ZERO };
+        let lines = line_starts(&lent.list).len();
+        for _ in 0..if wrong > 4 { 3 } else { 8 } {
+            let mut state = opened;
+            let line = if wrong > 4 && rng.percent(80) { wrong } else { 5 + rng.below(lines.saturating_sub(4)) };
+            mark_line(rng, &mut state, &lent.list, line);
+            self.lend(lent);
+            self.call(&mut lent.clone(), b"", state)?;
+        }
+        Ok(())
+    }
+
+    /// All pieces and sometimes a call or two more; with trouble, something is altered before one of the calls, at a stop or not.
     fn calls(&mut self, rng: &mut Rng, world: &World, mut lent: Lent, pieces: &Pieces, mut state: State, trouble: bool) -> Result<(), String> {
         let Pieces { data, cuts } = pieces;
         let steps = cuts.len() + 1 + rng.pick(&[0, 0, 1, 2]);
-        let when = if trouble { rng.below(steps) } else { usize::MAX };
+        let most = rng.pick(&[1, 2, 4, 8, 20]);
+        let mut before_trouble = trouble.then(|| rng.below(most));
         let opened = state;
         let mut done = false;
         for (step, mut piece) in pieces.each().chain(repeat(&[][..])).take(steps).enumerate() {
             if step > cuts.len() && rng.percent(50) {
                 piece = &data[..data.len().min(100)];
             }
-            let kept = (step == when).then(|| (lent.clone(), state));
-            if step == when {
-                alter(rng, world, &mut lent, &mut state);
-            }
-            let mut answer = self.call(&mut lent, piece, state)?;
-            if let Some((before, state)) = kept {
-                if answer.outcome.number() == 17 && rng.percent(60) {
-                    // 17 is not kept: with everything as it was, the run goes on.
-                    lent = before;
-                    self.lend(&lent);
-                    answer = self.call(&mut lent, piece, state)?;
+            loop {
+                let troubled = before_trouble == Some(0);
+                before_trouble = before_trouble.and_then(|calls| calls.checked_sub(1));
+                let answer = if troubled { self.troubled(rng, world, &mut lent, piece, state)? } else { self.call(&mut lent, piece, state)? };
+                self.coverage.after_done += done as u64;
+                done |= answer.outcome == Outcome::Done;
+                state = self.kept(rng, answer)?;
+                piece = &piece[answer.taken..];
+                if answer.outcome != Outcome::Stop {
+                    break;
                 }
             }
-            self.coverage.after_done += done as u64;
-            done |= answer.outcome == Outcome::Done;
-            state = answer.state;
+        }
+        if before_trouble.is_some() {
+            self.troubled(rng, world, &mut lent, &[], state)?;
         }
         if !trouble && rng.percent(40) {
             self.again(lent, pieces, opened)?;
@@ -118,38 +144,72 @@ impl Checker<'_> {
         Ok(())
     }
 
+    /// A call before which something is altered; where that gives 17, mostly another with everything as it was: 17 is not kept, and the run goes on.
+    fn troubled(&mut self, rng: &mut Rng, world: &World, lent: &mut Lent, piece: &[u8], state: State) -> Result<Answer, String> {
+        let (before, mut altered) = (lent.clone(), state);
+        alter(rng, world, lent, &mut altered);
+        let answer = self.call(lent, piece, altered)?;
+        if answer.outcome.number() != 17 || rng.percent(40) {
+            return Ok(answer);
+        }
+        *lent = before;
+        self.lend(lent);
+        self.call(lent, piece, state)
+    }
+
+    /// The state that a call left, now and then saved and read back.
+    fn kept(&mut self, rng: &mut Rng, answer: Answer) -> Result<State, String> {
+        if !rng.one_in(if answer.outcome == Outcome::Stop { 6 } else { 20 }) {
+            return Ok(answer.state);
+        }
+        self.coverage.stops.went_on();
+        self.restored(rng, answer.state)
+    }
+
     /// The list once more from where it began, over what it left: what is finished by then is passed over.
     fn again(&mut self, mut lent: Lent, pieces: &Pieces, mut state: State) -> Result<(), String> {
         self.coverage.finished.again_begins();
         let mut number = 0;
         for piece in pieces.each() {
-            let answer = self.call(&mut lent, piece, state)?;
+            let answer = self.call_on(&mut lent, piece, state)?;
             (number, state) = (answer.outcome.number(), answer.state);
         }
         self.coverage.finished.again_ended(number);
         Ok(())
     }
 
-    /// Calls one after another, then the model over all pieces joined, sometimes the list once more, and a run over the same cuts.
+    /// Calls one after another, then the model over all pieces joined, sometimes the list once more, and a run over the same cuts. After a stop the
+    /// next piece begins with the bytes that were not taken, and sometimes goes further than the last one.
     fn sequence(&mut self, rng: &mut Rng, lent: Lent, pieces: &Pieces, opened: State) -> Result<(), String> {
         let mut now = lent.clone();
         let mut state = opened;
-        let mut joined = 0;
+        let data = &pieces.data;
+        let mut joined = 0usize;
         let mut taken = 0;
         let steps = rng.below(pieces.cuts.len() + 1) + 1;
         let mut last = None;
-        for piece in pieces.each().take(steps) {
-            let answer = self.call(&mut now, piece, state)?;
-            joined += piece.len();
-            taken += answer.taken;
-            state = answer.state;
-            last = Some(answer);
+        for cut in pieces.cuts.iter().copied().chain([usize::MAX]).take(steps) {
+            let mut from = joined;
+            joined = joined.saturating_add(cut).min(data.len());
+            loop {
+                let answer = self.call(&mut now, &data[from..joined], state)?;
+                from += answer.taken;
+                taken += answer.taken;
+                state = answer.state;
+                last = Some(answer);
+                if answer.outcome != Outcome::Stop {
+                    break;
+                }
+                if rng.one_in(4) {
+                    joined += rng.below((data.len() - joined).min(5_000) + 1);
+                }
+            }
         }
         let Some(mut last) = last else { return Ok(()) };
         last.taken = taken;
         let mut fresh = lent.clone();
         let (list, areas) = fresh.areas();
-        let whole = model::call(list, areas, &pieces.data[..joined], opened);
+        let whole = model::through(list, areas, &data[..joined], opened);
         self.coverage.sequences += 1;
         // Once refused, the taken bytes and the state agree too: the refusal stands at the same line.
         let areas_differ = fresh.image != now.image || fresh.stash != now.stash || fresh.work != now.work || fresh.result != now.result;
@@ -276,11 +336,13 @@ fn past_stashes(world: &World, count: usize, lent: &mut Lent, state: &mut State)
 fn any_sizes(rng: &mut Rng) -> Sizes {
     if rng.one_in(80) {
         let stashes = rng.pick(&[MOST_STASHES, MOST_STASHES, MOST_STASHES, MOST_STASHES - 1, 65]);
-        return Sizes { stashes, ..Sizes::small(stashes + rng.below(20), stashes + rng.below(50), rng.between(2, 12)) };
+        // Each stretch is a stop, and at each all areas are compared: mostly few of them.
+        let stretches = rng.pick(&[8, 8, 8, 8, MOST_STASHES]);
+        return Sizes { stashes, stretches, ..Sizes::small(stashes + rng.below(20), stashes + rng.below(50), rng.between(2, 12)) };
     }
     if rng.one_in(50_000) {
         let area = rng.between(4_097, 4_200);
-        return Sizes { most: area, often: 3, ..Sizes::small(rng.between(20, 60), area, rng.between(2, 5)) };
+        return Sizes { most: area, often: 3, stretches: 8, ..Sizes::small(rng.between(20, 60), area, rng.between(2, 5)) };
     }
     match rng.below(400) {
         0 => Sizes::small(rng.between(20, 300), rng.between(8, 80), rng.between(20, 150)),

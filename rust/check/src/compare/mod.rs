@@ -5,14 +5,15 @@ mod closed;
 mod lines;
 mod odd;
 mod reading;
+mod saved;
 mod sparse;
 
 use crate::coverage::{Coverage, Kept};
 use crate::generate::{Blocks, Pieces};
 use crate::guard::Guarded;
-use crate::{hex, Implementation, Plain};
+use crate::{hex, Implementation, Model, Plain};
 pub use lines::LineChecker;
-use reference::{Answer, Areas, Rooms, State, BLOCK};
+use reference::{Answer, Areas, Outcome, Rooms, State, BLOCK};
 pub use sparse::SparseChecker;
 use std::fmt::Write;
 
@@ -31,7 +32,7 @@ pub trait Series {
 }
 
 /// What is lent to the plain implementation.
-#[derive(Clone)]
+#[derive(Clone, PartialEq)]
 struct Lent {
     list: Vec<u8>,
     image: Vec<u8>,
@@ -71,6 +72,8 @@ pub struct Checker<'a> {
     patch: Guarded,
     piece: Guarded,
     behind: bool,
+    /// Each call is made by the slow model too.
+    thrice: bool,
     blocks: Blocks,
     made_up: Blocks,
     log: Option<String>,
@@ -79,11 +82,14 @@ pub struct Checker<'a> {
 
 fn state_text(state: &State) -> String {
     format!(
-        "count {} line {} at {} into {} refusal {:?} {:?}\n    sizes {:?}\n    hashes {}",
+        "count {} line {} at {} into {} total {} ready {} stretches {} refusal {:?} {:?}\n    sizes {:?}\n    hashes {}",
         state.count,
         state.line,
         state.at,
         state.into,
+        state.total,
+        state.ready,
+        state.stretches,
         (state.refusal.number, state.refusal.line, state.refusal.byte),
         state.lengths,
         state.sizes,
@@ -136,6 +142,7 @@ impl<'a> Checker<'a> {
             patch: room(),
             piece: room(),
             behind: true,
+            thrice: false,
             blocks: Blocks::new(),
             made_up: Blocks::made_up(),
             log: None,
@@ -191,6 +198,20 @@ impl<'a> Checker<'a> {
         (*other, list.bytes(), areas, piece.bytes())
     }
 
+    /// Calls until the run is done, needs more or is refused, each call compared. After a stop the next piece is what was not taken.
+    fn call_on(&mut self, lent: &mut Lent, piece: &[u8], mut state: State) -> Result<Answer, String> {
+        let mut taken = 0;
+        loop {
+            let answer = self.call(lent, &piece[taken..], state)?;
+            taken += answer.taken;
+            state = answer.state;
+            if answer.outcome != Outcome::Stop {
+                return Ok(Answer { taken, ..answer });
+            }
+        }
+    }
+
+    /// One call, which may end with a stop.
     fn call(&mut self, lent: &mut Lent, piece: &[u8], state: State) -> Result<Answer, String> {
         if lent.rooms() != self.others().2.rooms() {
             self.lend(lent);
@@ -202,9 +223,18 @@ impl<'a> Checker<'a> {
             let text = String::from_utf8_lossy(&lent.list).to_string();
             format!("call: {}\n  piece {}\n{text}\n  state {}", lent.text(), hex(piece), state_text(&state))
         });
+        let mut third = self.thrice.then(|| lent.clone());
         let (list, areas) = lent.areas();
         let kept = Kept::of(list, &areas, &state);
         let ours = Plain.call(list, areas, piece, state);
+        if let Some(third) = &mut third {
+            let (list, areas) = third.areas();
+            let slow = Model.call(list, areas, piece, state);
+            self.coverage.thrice += 1;
+            if slow != ours || third != lent {
+                return Err(format!("plain and model differ: {} and {}", answer_text(&ours), answer_text(&slow)));
+            }
+        }
         let (other, list, areas, others_piece) = self.others();
         let theirs = other.call(list, areas, others_piece, state);
         self.note(|| format!("  plain: {}\n  other: {}", answer_text(&ours), answer_text(&theirs)));

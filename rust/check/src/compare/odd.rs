@@ -91,7 +91,18 @@ impl Checker<'_> {
         let any = rng.between(4_097, MOST_AREA);
         let area = rng.pick(&[4_097, any, any, MOST_AREA - 1, MOST_AREA, MOST_AREA]);
         let image = rng.between(area, 2 * area);
-        let sizes = Sizes { image, area, commands: rng.between(5, 12), most: area, often: 2, bytes: 1 << 20, patch: 0, stashes: 0 };
+        let sizes = Sizes {
+            image,
+            area,
+            commands: rng.between(5, 12),
+            most: area,
+            often: 2,
+            bytes: 1 << 20,
+            patch: 0,
+            stashes: 0,
+            stretches: usize::MAX,
+            frees: 0,
+        };
         let world = World::good(rng, &mut self.made_up, &sizes);
         let World { stash, work, result, .. } = world;
         let rooms = Rooms { image: image * BLOCK, stash: stash * BLOCK, work: work * BLOCK, result: result * BLOCK, patch: world.patch.len() };

@@ -1,5 +1,5 @@
 //! Lines that find their work done, lines that are near to it, and what comes behind them: document 02, R-8. A call is gone through once more, line
-//! by line, for counting alone.
+//! by line, for counting alone. Calls with stops between them count as one way.
 
 use super::{add, blocks, hash_of, meet, patch, ranges};
 use crate::hex;
@@ -26,13 +26,13 @@ const SKIPPED: [&str; 23] = [
     "a target over a part of its source",
     "a move onto its own place",
     "a line that stood before",
-    "a line that ran before in the call",
+    "a line that ran on the way to it",
     "bytes taken before it and behind it",
     "the first line of a call",
     "the last line of the list",
 ];
 
-/// How a call goes on behind a skipped line.
+/// How the way goes on behind a skipped line, past every stop.
 const BEHIND: [&str; 8] = [
     "a stash",
     "a move or a bsdiff that ran",
@@ -91,6 +91,18 @@ pub struct Finished {
     again: [u64; AGAIN.len()],
     /// Lines skipped, and those of the same words that ran, since a list was last run once more.
     since: (u64, u64),
+    way: Option<Way>,
+}
+
+/// Calls with stops between them: the state before the first and after the last, and what they took.
+#[derive(Clone)]
+struct Way {
+    from: State,
+    after: State,
+    taken: usize,
+    /// Where the lines start that were skipped, which of SKIPPED each has, and the bytes taken before it.
+    skipped: Vec<(usize, [bool; SKIPPED.len()], usize)>,
+    ran: Vec<Vec<u8>>,
 }
 
 /// The areas as a call finds them.
@@ -102,10 +114,12 @@ pub struct Kept {
 }
 
 impl Kept {
-    /// Nothing where the call has no line that could be skipped.
+    /// Nothing where the call comes to no line that could be skipped: a stop comes before it.
     pub fn of(list: &[u8], areas: &Areas, state: &State) -> Option<Kept> {
+        let is_word = |line: &[u8], words: &[&[u8]]| words.iter().any(|word| line.starts_with(word));
         let mut lines = list.get(state.at..)?.split(|c| *c == b'\n');
-        let some = state.refusal.number == 0 && lines.any(|line| line.starts_with(b"move ") || line.starts_with(b"bsdiff "));
+        let stops = lines.find(|line| !is_word(line, &[b"zero ", b"erase ", b"new ", b"free "]))?;
+        let some = state.refusal.number == 0 && state.ready == 0 && state.stretches == 0 && is_word(stops, &[b"move ", b"bsdiff "]);
         let [image, stash, work, result] = [&areas.image, &areas.stash, &areas.work, &areas.result];
         some.then(|| Kept { image: image.to_vec(), stash: stash.to_vec(), work: work.to_vec(), result: result.to_vec() })
     }
@@ -212,15 +226,10 @@ impl Walk<'_> {
         let (list, piece) = (&self.list[..place], &self.piece[self.taken..]);
         let Kept { image, stash, work, result } = &mut self.kept;
         self.state.lengths.list = place;
-        let called = plain::call(list, Areas { image, stash, work, result, patch: self.patch }, piece, &mut self.state);
+        let called = plain::call_on(list, Areas { image, stash, work, result, patch: self.patch }, piece, &mut self.state);
         self.state.lengths.list = self.list.len();
         self.taken += called.taken;
         called.outcome == Outcome::Done
-    }
-
-    fn skip(&mut self, line: &Line) {
-        self.state.at += line.text.len();
-        self.state.line += 1;
     }
 
     /// The line stands before this place too.
@@ -251,7 +260,7 @@ impl Walk<'_> {
     }
 
     /// Which of SKIPPED a line has whose target has its hash.
-    fn skipped(&self, line: &Line, ran: &[&[u8]], answer: &Answer, first: bool) -> [bool; SKIPPED.len()] {
+    fn skipped(&self, line: &Line, ran: &[Vec<u8>], first: bool) -> [bool; SKIPPED.len()] {
         let mut kinds = [false; SKIPPED.len()];
         let Line { patched, target, order, n, .. } = line;
         kinds[line.form() + if patched.is_some() { 3 } else { 0 }] = true;
@@ -277,8 +286,7 @@ impl Walk<'_> {
         kinds[16] = meet(target, &set) && !own;
         kinds[17] = patched.is_none() && own;
         kinds[18] = self.stood_before(line);
-        kinds[19] = ran.contains(&line.text);
-        kinds[20] = self.taken > 0 && answer.taken > self.taken;
+        kinds[19] = ran.iter().any(|other| other == line.text);
         kinds[21] = first;
         kinds[22] = self.state.at + line.text.len() == self.list.len();
         kinds
@@ -337,45 +345,76 @@ fn digit(c: u8) -> u32 {
 }
 
 impl Finished {
-    /// Goes through a call from a possible state; where the lines start that it skipped.
-    pub(super) fn called(&mut self, list: &[u8], areas: &Areas, piece: &[u8], kept: Kept, before: &State, answer: &Answer) -> Vec<usize> {
-        let mut walk = Walk { list, patch: areas.patch, piece, kept, state: *before, taken: 0 };
-        let mut skipped = Vec::new();
-        let mut ran: Vec<&[u8]> = Vec::new();
-        let mut start = before.at;
-        let (end, number) = (answer.state.at, answer.outcome.number());
-        for text in list[before.at..].split_inclusive(|c| *c == b'\n') {
-            let at = start;
-            start += text.len();
-            if at > end || at == end && matches!(number, 6 | 7) {
-                break;
+    /// Goes through a call from a possible state; where the line starts that it skipped, if it did.
+    pub(super) fn called(&mut self, list: &[u8], areas: &Areas, piece: &[u8], kept: Option<Kept>, before: &State, answer: &Answer) -> Vec<usize> {
+        // A state that no stop left begins anew.
+        let begun = self.way.take();
+        let mut way = match begun {
+            Some(way) if way.after == *before => way,
+            other => {
+                self.ended(other);
+                Way { from: *before, after: *before, taken: 0, skipped: Vec::new(), ran: Vec::new() }
             }
-            let Some(line) = Line::of(text) else { continue };
-            if !walk.run_to(at) {
-                break;
-            }
-            let done = line.is_finished(&walk.kept.image);
-            match number {
-                16 | 19 if at == end => add(&mut self.close, &walk.close(&line)),
-                _ if at == end => add(&mut self.checked, &CHECKED.map(|checked| done && checked == number.to_string())),
-                _ if done => {
-                    add(&mut self.skipped, &walk.skipped(&line, &ran, answer, at == before.at));
-                    walk.skip(&line);
-                    skipped.push(at);
-                }
-                _ => match walk.near(&line) {
-                    Some(kinds) => {
-                        add(&mut self.near, &kinds);
-                        ran.push(text);
-                    }
-                    None => break,
-                },
-            }
+        };
+        let known = way.skipped.len();
+        if let Some(kept) = kept {
+            self.line(&mut way, Walk { list, patch: areas.patch, piece, kept, state: *before, taken: 0 }, answer);
         }
+        let skipped: Vec<usize> = way.skipped[known..].iter().map(|(at, ..)| *at).collect();
         self.since.0 += skipped.len() as u64;
-        self.since.1 += ran.len() as u64;
-        add(&mut self.behind, &behind(list, &skipped, before, answer));
+        way.taken += answer.taken;
+        way.after = answer.state;
+        if answer.outcome == Outcome::Stop {
+            self.way = Some(way);
+            return skipped;
+        }
+        let all: Vec<usize> = way.skipped.iter().map(|(at, ..)| *at).collect();
+        add(&mut self.behind, &behind(list, &all, &way.from, answer));
+        self.ended(Some(way));
         skipped
+    }
+
+    /// The `move` or `bsdiff` that a call came to, where it did: there it stopped, or was refused.
+    fn line(&mut self, way: &mut Way, mut walk: Walk, answer: &Answer) {
+        let (first, end, number) = (walk.state.at, answer.state.at, answer.outcome.number());
+        let filled = answer.state.ready != 0;
+        let mut at = first;
+        let found = walk.list[first..].split_inclusive(|c| *c == b'\n').find(|text| {
+            at += text.len();
+            text.starts_with(b"move ") || text.starts_with(b"bsdiff ")
+        });
+        let Some(text) = found else { return };
+        at -= text.len();
+        // A line that the call did not read need not be a good one.
+        if at > end || at == end && matches!(number, 6 | 7) {
+            return;
+        }
+        let Some(line) = Line::of(text) else { return };
+        if !walk.run_to(at) {
+            return;
+        }
+        let done = line.is_finished(&walk.kept.image);
+        match number {
+            16 | 19 if at == end => add(&mut self.close, &walk.close(&line)),
+            0 if at == end && filled => {
+                if let Some(kinds) = walk.near(&line) {
+                    add(&mut self.near, &kinds);
+                    way.ran.push(text.to_vec());
+                    self.since.1 += 1;
+                }
+            }
+            _ if at == end => add(&mut self.checked, &CHECKED.map(|checked| done && checked == number.to_string())),
+            _ => way.skipped.push((at, walk.skipped(&line, &way.ran, at == first), way.taken + walk.taken)),
+        }
+    }
+
+    /// Counts the lines skipped on a way that is over.
+    fn ended(&mut self, way: Option<Way>) {
+        let Some(way) = way else { return };
+        for (_, mut kinds, taken) in way.skipped {
+            kinds[20] = taken > 0 && way.taken > taken;
+            add(&mut self.skipped, &kinds);
+        }
     }
 
     /// A list that was run is about to be run once more.
@@ -402,7 +441,7 @@ impl Finished {
     }
 }
 
-/// Which of BEHIND a call has that skipped these lines.
+/// Which of BEHIND a way has on which these lines were skipped.
 fn behind(list: &[u8], skipped: &[usize], before: &State, answer: &Answer) -> [bool; BEHIND.len()] {
     let (Some(first), Some(last)) = (skipped.first(), skipped.last()) else { return [false; BEHIND.len()] };
     let mut at = before.at;

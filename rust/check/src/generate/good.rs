@@ -112,7 +112,7 @@ impl World {
                 world.note_refused(rng, blocks, &follow);
             }
             let before = world.commands.len();
-            let command = match rng.below(15 + stash_weight) {
+            let command = match rng.below(15 + stash_weight + sizes.frees) {
                 0 => good_zero(rng, &mut follow),
                 1 | 2 => world.good_new(rng, letters, &mut follow),
                 3 | 4 => good_free(rng, &mut follow),
@@ -120,6 +120,7 @@ impl World {
                 9 | 10 => world.good_bsdiff(rng, blocks, letters, &mut follow),
                 11..=13 => world.good_finished(rng, blocks, &follow),
                 14 => world.good_near(rng, blocks, &mut follow),
+                kind if kind >= 15 + stash_weight => good_free(rng, &mut follow),
                 _ => world.good_stash(rng, blocks, &mut follow),
             };
             world.commands.extend(command);
@@ -259,7 +260,11 @@ fn good_free(rng: &mut Rng, follow: &mut Follow) -> Option<Command> {
     if follow.held.is_empty() {
         return None;
     }
-    let j = rng.below(follow.held.len());
+    let mut j = rng.below(follow.held.len());
+    let blocks = |stashes: &[(Hash, Vec<u8>)]| stashes.iter().map(|stash| stash.1.len()).sum::<usize>();
+    if blocks(&follow.held[j + 1..]).div_ceil(blocks(&follow.held[j..=j])) > follow.sizes.stretches {
+        j = follow.held.len() - 1;
+    }
     let (hash, _) = follow.held.remove(j);
     Some(Command::Free { hash })
 }

@@ -22,5 +22,5 @@ pub use ill::ill_list;
 pub use lines::line_starts;
 pub use pieces::Pieces;
 pub use rng::Rng;
-pub use states::{disturb, same_at_the_ends};
+pub use states::{disturb, mark_line, same_at_the_ends};
 pub use world::{Sizes, World};

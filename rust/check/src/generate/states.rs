@@ -2,12 +2,13 @@
 
 use super::lines::line_starts;
 use super::Rng;
+use crate::coverage::ranges;
 use reference::{Hash, Refusal, State, BLOCK, MOST_AREA, MOST_STASHES};
 
 /// Changes one thing in a state: at a border, at random, or so that it is another possible state.
 pub fn disturb(rng: &mut Rng, state: &mut State, list: &[u8]) {
     let starts = line_starts(list);
-    match rng.below(32) {
+    match rng.below(44) {
         0 => {
             let near = rng.pick(&[state.count, 64, MOST_STASHES, MOST_STASHES]);
             state.count = rng.pick(&[0, 1, 2, usize::MAX, near, near.wrapping_add(1), near.wrapping_add(1), near.wrapping_sub(1)]);
@@ -118,7 +119,12 @@ pub fn disturb(rng: &mut Rng, state: &mut State, list: &[u8]) {
             state.sizes[k] = rng.below(4);
         }
         21 => everything(rng, state),
-        24..=31 => without_blocks(rng, state, list, &starts),
+        24..=29 => without_blocks(rng, state, list, &starts),
+        30 | 31 => state.total = rng.next_u64(),
+        32..=43 => {
+            let line = 5 + rng.below(starts.len().saturating_sub(4));
+            mark_line(rng, state, list, line);
+        }
         // With a number or with none.
         _ if rng.percent(50) => state.refusal.byte = rng.pick(&[1, 8, list.len(), usize::MAX]),
         _ => state.refusal.line = rng.pick(&[1, 5, usize::MAX]),
@@ -148,6 +154,132 @@ fn without_blocks(rng: &mut Rng, state: &mut State, list: &[u8], starts: &[usize
     }
 }
 
+/// At this line, or at another, with the stashes that the lines before it leave: a ready mark, stretches, a stash of no blocks, or two marks at once.
+/// Often it is a state that can be, else one that just cannot.
+pub fn mark_line(rng: &mut Rng, state: &mut State, list: &[u8], line: usize) {
+    let starts = line_starts(list);
+    let of = |words: &[&[u8]]| -> Vec<usize> {
+        (4..starts.len()).filter(|k| words.iter().any(|word| list[starts[*k]..].starts_with(word))).map(|k| k + 1).collect()
+    };
+    let kind = rng.below(10);
+    let wanted = match kind {
+        0..=3 => of(&[b"move ", b"stash ", b"bsdiff "]),
+        4..=6 => of(&[b"free "]),
+        _ => Vec::new(),
+    };
+    let line = if wanted.is_empty() || rng.percent(60) { line } else { rng.pick(&wanted) };
+    let Some(at) = starts.get(line - 1).copied() else { return };
+    (state.at, state.line, state.into, state.ready, state.stretches) = (at, line, 0, 0, 0);
+    state.count = state.count.min(MOST_STASHES);
+    if rng.percent(85) {
+        hold_before(state, list, line);
+    }
+    match kind {
+        0..=3 => {
+            state.ready = any_mark(rng);
+            other_stashes(rng, state, &list[at..]);
+        }
+        4..=6 => stretched(rng, state, &list[at..]),
+        7 | 8 => {
+            // Anywhere among those held.
+            if state.count == 0 {
+                set_hash(state, 0, &[5; 20]);
+                state.count = 1;
+            }
+            let last = state.count.clamp(1, MOST_STASHES) - 1;
+            let k = rng.pick(&[0, last, last / 2]);
+            state.sizes[k] = 0;
+        }
+        _ => {
+            let (bytes, stretches) = (rng.pick(&[1, BLOCK - 1]), rng.pick(&[1, 2]));
+            (state.into, state.ready, state.stretches) = rng.pick(&[(bytes, 1, 0), (bytes, 0, stretches), (0, 1, stretches), (bytes, 1, stretches)]);
+        }
+    }
+}
+
+/// Every number but 0 is a ready mark.
+fn any_mark(rng: &mut Rng) -> usize {
+    rng.pick(&[1, 1, 1, 1, 2, 256, 1 << 32, 1 << 63, usize::MAX])
+}
+
+/// The stashes that the lines before this one leave.
+fn hold_before(state: &mut State, list: &[u8], line: usize) {
+    let mut held: Vec<(Hash, usize)> = Vec::new();
+    for text in list.split(|c| *c == b'\n').take(line - 1) {
+        let mut fields = text.split(|c| *c == b' ');
+        match (fields.next(), fields.next().and_then(hash_at), fields.next().and_then(ranges)) {
+            (Some(b"stash"), Some(hash), Some(set)) => held.push((hash, blocks_in(&set))),
+            (Some(b"free"), Some(hash), None) => held.retain(|stash| stash.0 != hash),
+            _ => {}
+        }
+    }
+    held.truncate(MOST_STASHES);
+    state.count = held.len();
+    for (k, (hash, blocks)) in held.iter().enumerate() {
+        set_hash(state, k, hash);
+        state.sizes[k] = *blocks;
+    }
+}
+
+fn blocks_in(set: &[(u64, u64)]) -> usize {
+    set.iter().map(|(start, end)| end.saturating_sub(*start) as usize).sum()
+}
+
+/// Now and then another stash or another size than the line at the text's start wants: 10, 11, 13, 14.
+fn other_stashes(rng: &mut Rng, state: &mut State, text: &[u8]) {
+    match rng.below(12) {
+        0 => state.count = state.count.saturating_sub(1),
+        1 | 2 if state.count > 0 => {
+            let k = rng.below(state.count);
+            state.sizes[k] = rng.pick(&[state.sizes[k].wrapping_add(1), state.sizes[k].wrapping_sub(1)]);
+        }
+        3 | 4 => {
+            // The stash that it makes is held already, or one more than there is room for.
+            let hash = stashes_named(text).first().copied().filter(|_| rng.percent(60)).unwrap_or([6; 20]);
+            if state.count < MOST_STASHES {
+                let k = state.count;
+                set_hash(state, k, &hash);
+                state.sizes[k] = 1;
+                state.count += 1;
+            }
+        }
+        _ => {}
+    }
+}
+
+/// At a `free`: stretches about as many as there are, of younger stashes that may be made for it.
+fn stretched(rng: &mut Rng, state: &mut State, text: &[u8]) {
+    state.stretches = rng.pick(&[1, 1, 2, usize::MAX, 1 << 63]);
+    let Some(hash) = text.strip_prefix(b"free ").and_then(hash_at) else { return };
+    let find = |state: &State| (0..state.count).find(|k| state.hashes[20 * k..20 * k + 20] == hash);
+    if find(state).is_none() && state.count < MOST_STASHES && rng.percent(80) {
+        let k = state.count;
+        set_hash(state, k, &hash);
+        state.sizes[k] = rng.between(1, 2);
+        state.count += 1;
+    }
+    for id in 0..rng.pick(&[0, 0, 1, 1, 2]) {
+        if state.count < MOST_STASHES {
+            let k = state.count;
+            set_hash(state, k, &[0xd0 + id; 20]);
+            state.sizes[k] = rng.between(1, 3);
+            state.count += 1;
+        }
+    }
+    let Some(j) = find(state) else { return };
+    if state.sizes[j] == 0 {
+        return;
+    }
+    let younger = state.sizes[j + 1..state.count].iter().fold(0usize, |sum, size| sum.saturating_add(*size));
+    let all = younger.div_ceil(state.sizes[j]);
+    let fewer = rng.below(all.max(1));
+    state.stretches = rng.pick(&[all.saturating_sub(1), all.saturating_sub(1), fewer, all, all, all.saturating_add(1), usize::MAX]);
+    if rng.one_in(8) {
+        // Not held any more: another hash in its place.
+        set_hash(state, j, &[0xc0; 20]);
+    }
+}
+
 /// One hash twice: at both ends of what is held, or in its last two places.
 pub fn same_at_the_ends(rng: &mut Rng, state: &mut State) {
     let last = state.count.clamp(2, MOST_STASHES) - 1;
@@ -167,6 +299,8 @@ fn everything(rng: &mut Rng, state: &mut State) {
     state.line = border(rng, state.line);
     state.at = border(rng, state.at);
     state.into = border(rng, state.into);
+    state.total = border(rng, usize::MAX) as u64;
+    (state.ready, state.stretches) = (border(rng, 1), border(rng, 1));
     if rng.percent(20) {
         let [number, line, byte] = std::array::from_fn(|_| rng.next_u64() as usize);
         state.refusal = Refusal { number, line, byte };

@@ -20,7 +20,8 @@ pub struct World {
 }
 
 /// How large a world may be: blocks of the image and of an area, commands, blocks of one command, bytes of the list and of the patch data. One
-/// command in `often` may have its most blocks, the others a part of that. So many `stashes` of a block are made before all else.
+/// command in `often` may have its most blocks, the others a part of that. So many `stashes` of a block are made before all else. A `free` moves the
+/// younger stashes in no more than so many `stretches`. With `frees` there are so many more of them among some twenty lines.
 #[derive(Clone, Copy)]
 pub struct Sizes {
     pub image: usize,
@@ -31,11 +32,13 @@ pub struct Sizes {
     pub patch: usize,
     pub often: usize,
     pub stashes: usize,
+    pub stretches: usize,
+    pub frees: usize,
 }
 
 impl Sizes {
     pub fn small(image: usize, area: usize, commands: usize) -> Sizes {
-        Sizes { image, area, commands, most: 4, bytes: usize::MAX, patch: 1 << 20, often: 1, stashes: 0 }
+        Sizes { image, area, commands, most: 4, bytes: usize::MAX, patch: 1 << 20, often: 1, stashes: 0, stretches: usize::MAX, frees: 0 }
     }
 }
 

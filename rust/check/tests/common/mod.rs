@@ -1,5 +1,8 @@
 //! What the tests of the rules share. Each rule is tried on all three implementations.
 
+// No file of tests has a use for all of it.
+#![allow(dead_code)]
+
 use check::{hex, Implementation, Library, Model, Plain};
 use reference::{digest, Answer, Areas, Outcome, Refusal, Rooms, State, BLOCK};
 
@@ -25,6 +28,7 @@ pub fn name(letters: &str) -> String {
     hex(&digest(&blocks(letters)))
 }
 
+#[derive(Clone, PartialEq)]
 pub struct Lent {
     pub list: Vec<u8>,
     pub image: Vec<u8>,
@@ -59,7 +63,14 @@ impl Lent {
         on.open(&self.list, self.rooms())
     }
 
+    /// Past every stop, to where the run ends.
     pub fn call(&mut self, on: &dyn Implementation, piece: &[u8], state: State) -> Answer {
+        let (list, areas) = self.areas();
+        on.call_on(list, areas, piece, state)
+    }
+
+    /// One call, to the next stop or to where the run ends.
+    pub fn call_once(&mut self, on: &dyn Implementation, piece: &[u8], state: State) -> Answer {
         let (list, areas) = self.areas();
         on.call(list, areas, piece, state)
     }
@@ -80,7 +91,7 @@ impl Lent {
     }
 }
 
-/// The areas after one call, and the answer: the same on all three, byte for byte, with the patch data as it was.
+/// The areas after a call, past every stop, and the answer: the same on all three, byte for byte, with the patch data as it was.
 pub fn after(list: &str, patch: &[u8], piece: &[u8]) -> ([String; 4], Answer) {
     let mut got = Vec::new();
     for on in all() {
@@ -99,8 +110,6 @@ pub fn said(answer: &Answer) -> (Outcome, usize) {
     (answer.outcome, answer.taken)
 }
 
-/// The tests of openings have no use for it.
-#[allow(dead_code)]
 pub fn refused(number: usize, line: usize) -> Outcome {
     Outcome::Refused(refusal_of(number, line))
 }

@@ -1,6 +1,6 @@
 //! The small program of document 01, with the patch file of document 02.
 
-use reference::plain::{call, open};
+use reference::plain::{call_on, open};
 use reference::{Areas, Outcome, Refusal, BLOCK};
 use std::fs;
 
@@ -48,7 +48,7 @@ fn main() {
     let mut rest = &new[..];
     loop {
         let (piece, after) = rest.split_at(rest.len().min(BLOCK));
-        let called = call(&list, areas.reborrow(), piece, &mut state);
+        let called = call_on(&list, areas.reborrow(), piece, &mut state);
         total += called.taken;
         rest = after;
         if called.outcome == Outcome::More && !rest.is_empty() {
@@ -58,6 +58,7 @@ fn main() {
         match called.outcome {
             Outcome::Done => println!("done {total}"),
             Outcome::More => println!("more {total}"),
+            Outcome::Stop => unreachable!("calling on goes past every stop"),
             Outcome::Refused(refusal) => println!("{}", refused(refusal)),
         }
         return;

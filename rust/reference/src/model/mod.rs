@@ -1,23 +1,30 @@
 //! The rules a second time, slow and by other means: lines and fields are split apart, every number that applies to a line is
-//! collected before the lowest is taken, where a line is wrong is found by trying, and new data goes byte by byte. It guards the plain loops
-//! against slips.
+//! collected before the lowest is taken, where a line is wrong is found by trying, a line is a row of parts with stops between them, and new
+//! data goes byte by byte. It guards the plain loops against slips.
 
 mod fault;
 mod patch;
 mod read;
+mod run;
 mod sparse;
+mod writes;
 
-use crate::{digest, Answer, Areas, Lengths, Outcome, Refusal, Rooms, State, BLOCK, MOST_STASHES};
+use crate::{Answer, Areas, Lengths, Outcome, Refusal, Rooms, State, BLOCK, MOST_STASHES};
 use read::{blocks, decode, past, rules, size, Command, Ranges, Rules, Source};
+use run::{End, Part, Run};
 pub use sparse::load_sparse;
+pub use writes::{writes, Writes};
 
-/// The stashes a state holds: hash and blocks, oldest first.
+/// Stashes: hash and blocks, oldest first.
+type Held = [(Vec<u8>, u64)];
+
+/// Those that a state holds.
 fn stashes(state: &State) -> Vec<(Vec<u8>, u64)> {
     state.hashes.chunks(20).map(|h| h.to_vec()).zip(state.sizes.iter().map(|s| *s as u64)).take(state.count).collect()
 }
 
 /// Every number of 8 to 14 and 18 that applies; 12 is looked at only where no lower one does.
-fn faults(command: &Command, rules: &Rules, held: &[(Vec<u8>, u64)]) -> Vec<usize> {
+fn faults(command: &Command, rules: &Rules, held: &Held) -> Vec<usize> {
     let mut found = Vec::new();
     let mut fault = |number: usize, applies: bool| {
         if applies {
@@ -78,7 +85,7 @@ fn faults(command: &Command, rules: &Rules, held: &[(Vec<u8>, u64)]) -> Vec<usiz
 }
 
 /// The command of the line that starts at this byte; or the number that it is refused with, and for 6 the byte.
-fn judge(line: &[u8], at: usize, rules: &Rules, held: &[(Vec<u8>, u64)]) -> Result<Command, (usize, usize)> {
+fn judge(line: &[u8], at: usize, rules: &Rules, held: &Held) -> Result<Command, (usize, usize)> {
     let command = decode(line).map_err(|number| (number, if number == 6 { at + fault::of_command(line) } else { 0 }))?;
     match faults(&command, rules, held).into_iter().min() {
         Some(number) => Err((number, 0)),
@@ -136,207 +143,112 @@ fn impossible(list: &[u8], lengths: &Lengths, state: &State) -> bool {
     if names.len() != held.len() || held.iter().map(|stash| stash.1 as u128).sum::<u128>() > rules.held as u128 {
         return true;
     }
-    if state.into == 0 {
-        return false;
+    if held.iter().any(|stash| stash.1 == 0) {
+        return true;
     }
     let line = list[state.at..].split_inclusive(|c| *c == b'\n').next().unwrap_or(b"");
-    match decode(line) {
-        Ok(Command::New(target)) => past(&target, rules.image) || size(&target) as u128 * BLOCK as u128 <= state.into as u128,
-        _ => true,
-    }
+    let midway = |in_line: &dyn Fn(Command) -> bool| judge(line, state.at, &rules, &held).is_ok_and(in_line);
+    let bytes = |command| matches!(command, Command::New(target) if size(&target) as u128 * BLOCK as u128 > state.into as u128);
+    let area = |command| matches!(command, Command::Move { .. } | Command::Stash { .. } | Command::Bsdiff { .. });
+    let gap = |command| matches!(command, Command::Free { hash } if run::stretches(&held, &hash).len() > state.stretches);
+    (state.into != 0 && !midway(&bytes)) || (state.ready != 0 && !midway(&area)) || (state.stretches != 0 && !midway(&gap))
 }
 
-/// The stashes before the k-th have so many blocks.
-fn start_of(held: &[(Vec<u8>, u64)], k: usize) -> usize {
-    held[..k].iter().map(|stash| stash.1 as usize).sum()
-}
-
-/// Which of the stashes has this name; a line that passed its checks names held ones alone.
-fn index_of(held: &[(Vec<u8>, u64)], name: &[u8]) -> usize {
-    held.iter().position(|stash| stash.0 == name).expect("held")
-}
-
-/// Copies blocks: those of `from` in one area to those of `to` in another.
-fn put(into: &mut [u8], area: &[u8], from: &[usize], to: &[usize]) {
-    for (block, place) in from.iter().zip(to) {
-        into[place * BLOCK..(place + 1) * BLOCK].copy_from_slice(&area[block * BLOCK..(block + 1) * BLOCK]);
-    }
-}
-
-/// A call while it runs: what it is lent, where it stands, and what it has taken.
-struct Run<'a> {
-    image: &'a mut [u8],
-    stash: &'a mut [u8],
-    work: &'a mut [u8],
-    result: &'a mut [u8],
-    patch: &'a [u8],
-    piece: &'a [u8],
-    state: State,
-    taken: usize,
-}
-
-impl Run<'_> {
-    fn ends(self, outcome: Outcome) -> Answer {
-        Answer { state: self.state, outcome, taken: self.taken }
-    }
-
-    /// The refusal is held.
-    fn refused(mut self, number: usize, byte: usize) -> Answer {
-        self.state.refusal = Refusal { number, line: self.state.line, byte };
-        let refusal = self.state.refusal;
-        self.ends(Outcome::Refused(refusal))
-    }
-
-    /// The first n blocks of the work area have this hash.
-    fn gathered(&self, n: usize, hash: &[u8]) -> bool {
-        digest(&self.work[..n * BLOCK])[..] == *hash
-    }
-
-    /// The target's blocks, joined in the written order, have this hash already.
-    fn finished(&self, target: &Ranges, hash: &[u8]) -> bool {
-        let joined: Vec<u8> = blocks(target).into_iter().flat_map(|block| &self.image[block * BLOCK..(block + 1) * BLOCK]).copied().collect();
-        digest(&joined)[..] == *hash
-    }
-
-    fn zeros(&mut self, target: &Ranges) {
-        for block in blocks(target) {
-            self.image[block * BLOCK..(block + 1) * BLOCK].fill(0);
-        }
-    }
-
-    /// Byte by byte; whether it got all of them.
-    fn new_data(&mut self, target: &Ranges) -> bool {
-        let order = blocks(target);
-        while self.state.into < order.len() * BLOCK {
-            if self.taken == self.piece.len() {
-                return false;
-            }
-            self.image[order[self.state.into / BLOCK] * BLOCK + self.state.into % BLOCK] = self.piece[self.taken];
-            self.taken += 1;
-            self.state.into += 1;
-        }
-        self.state.into = 0;
-        true
-    }
-
-    /// Puts a source together; whether it has its hash.
-    fn source(&mut self, held: &[(Vec<u8>, u64)], hash: &[u8], n: usize, source: &Source) -> bool {
-        let all: Vec<usize> = (0..n).collect();
-        let nothing = Vec::new();
-        let parts = match source {
-            Source::Image(from) => {
-                put(self.work, self.image, &blocks(from), &all);
-                &nothing
-            }
-            Source::Both(from, places, parts) => {
-                put(self.work, self.image, &blocks(from), &blocks(places));
-                parts
-            }
-            Source::Stashes(parts) => parts,
-        };
-        for (name, places) in parts {
-            let k = index_of(held, name);
-            let from: Vec<usize> = (start_of(held, k)..start_of(held, k + 1)).collect();
-            put(self.work, self.stash, &from, &blocks(places));
-        }
-        self.gathered(n, hash)
-    }
-
-    /// What the work area holds by now goes over the target; nothing refuses that.
-    fn moved(&mut self, target: &Ranges, n: usize) -> Option<usize> {
-        put(self.image, self.work, &(0..n).collect::<Vec<_>>(), &blocks(target));
-        None
-    }
-
-    /// What the work area holds by now goes through the patch and over the target; or 19, or 16 for the result.
-    fn patched(&mut self, patch: (u64, u64), hash: &[u8], target: &Ranges, n: usize) -> Option<usize> {
-        let order = blocks(target);
-        let records = self.patch.iter().skip(patch.0 as usize).take(patch.1 as usize).copied().collect();
-        let Some(made) = patch::result(records, &self.work[..n * BLOCK], order.len() * BLOCK) else { return Some(19) };
-        self.result[..made.len()].copy_from_slice(&made);
-        if digest(&made)[..] != *hash {
-            return Some(16);
-        }
-        put(self.image, &made, &(0..order.len()).collect::<Vec<_>>(), &order);
-        None
-    }
-
-    /// Whether the source has its hash, and was then held.
-    fn stash_blocks(&mut self, held: &[(Vec<u8>, u64)], hash: &[u8], source: &Ranges) -> bool {
-        let n = size(source) as usize;
-        let all: Vec<usize> = (0..n).collect();
-        put(self.work, self.image, &blocks(source), &all);
-        if !self.gathered(n, hash) {
-            return false;
-        }
-        let after: Vec<usize> = all.iter().map(|k| k + start_of(held, held.len())).collect();
-        put(self.stash, self.work, &all, &after);
-        self.state.hashes[20 * held.len()..][..20].copy_from_slice(hash);
-        self.state.sizes[held.len()] = n;
-        self.state.count += 1;
-        true
-    }
-
-    /// The younger stashes move down over the one that goes.
-    fn free(&mut self, held: &[(Vec<u8>, u64)], hash: &[u8]) {
-        let j = index_of(held, hash);
-        let kept = self.stash[start_of(held, j + 1) * BLOCK..start_of(held, held.len()) * BLOCK].to_vec();
-        self.stash[start_of(held, j) * BLOCK..][..kept.len()].copy_from_slice(&kept);
-        for (k, younger) in held[j + 1..].iter().enumerate() {
-            self.state.hashes[20 * (j + k)..][..20].copy_from_slice(&younger.0);
-            self.state.sizes[j + k] = younger.1 as usize;
-        }
-        self.state.count -= 1;
-    }
-}
-
-pub fn call(list: &[u8], areas: Areas, piece: &[u8], state: State) -> Answer {
-    let lengths = Lengths::of(list, areas.rooms());
-    let Areas { image, stash, work, result, patch } = areas;
-    let mut run = Run { image, stash, work, result, patch, piece, state, taken: 0 };
+/// What a call runs with, from a possible state; or what it is refused with at once.
+fn begin<'a>(list: &[u8], areas: Areas<'a>, piece: &'a [u8], state: State) -> Result<(Run<'a>, Rules), Refusal> {
     if state.refusal.number != 0 {
-        return run.ends(Outcome::Refused(state.refusal));
+        return Err(state.refusal);
     }
+    let lengths = Lengths::of(list, areas.rooms());
     if impossible(list, &lengths, &state) {
-        return run.ends(Outcome::Refused(Refusal { number: 17, line: 0, byte: 0 }));
+        return Err(Refusal { number: 17, line: 0, byte: 0 });
     }
-    let rules = rules(list, &lengths).expect("possible");
-    for line in list[state.at..].split_inclusive(|c| *c == b'\n') {
-        let held = stashes(&run.state);
-        let number = match judge(line, run.state.at, &rules, &held) {
-            Err((number, byte)) => return run.refused(number, byte),
-            Ok(Command::Zero(target) | Command::Erase(target)) => {
-                run.zeros(&target);
-                None
-            }
-            Ok(Command::New(target)) => match run.new_data(&target) {
-                true => None,
-                false => return run.ends(Outcome::More),
-            },
-            Ok(Command::Move { hash, target, .. }) if run.finished(&target, &hash) => None,
-            Ok(Command::Bsdiff { result, target, .. }) if run.finished(&target, &result) => None,
-            Ok(Command::Move { hash, target, n, source }) => match run.source(&held, &hash, n as usize, &source) {
-                true => run.moved(&target, n as usize),
-                false => Some(16),
-            },
-            Ok(Command::Bsdiff { patch, hash, result, target, n, source }) => match run.source(&held, &hash, n as usize, &source) {
-                true => run.patched(patch, &result, &target, n as usize),
-                false => Some(16),
-            },
-            Ok(Command::Stash { hash, source }) => match run.stash_blocks(&held, &hash, &source) {
-                true => None,
-                false => Some(16),
-            },
-            Ok(Command::Free { hash }) => {
-                run.free(&held, &hash);
-                None
-            }
-        };
-        if let Some(number) = number {
-            return run.refused(number, 0);
+    let Areas { image, stash, work, result, patch } = areas;
+    Ok((Run { image, stash, work, result, patch, piece, state, taken: 0 }, rules(list, &lengths).expect("possible")))
+}
+
+/// One call with one piece of new data, to the next stop or to where the run ends.
+pub fn call(list: &[u8], areas: Areas, piece: &[u8], state: State) -> Answer {
+    match begin(list, areas, piece, state) {
+        Ok((mut run, rules)) => {
+            let end = to_stop(list, &rules, &mut run, |_, _| ());
+            run.answers(end)
         }
-        run.state.at += line.len();
-        run.state.line += 1;
+        Err(refusal) => Answer { state, outcome: Outcome::Refused(refusal), taken: 0 },
     }
-    run.ends(Outcome::Done)
+}
+
+/// A part of a line that was done, or begun: with the stashes and the bytes into a `new` before it, and the bytes that it took.
+struct Did<'a> {
+    part: &'a Part,
+    command: &'a Command,
+    held: &'a Held,
+    into: usize,
+    bytes: usize,
+}
+
+/// Part after part, to the first that has a stop behind it; each is shown with the run as it left it.
+fn to_stop(list: &[u8], rules: &Rules, run: &mut Run, mut shown: impl FnMut(&Run, Did)) -> End {
+    for line in list[run.state.at..].split_inclusive(|c| *c == b'\n') {
+        let held = stashes(&run.state);
+        let command = match judge(line, run.state.at, rules, &held) {
+            Ok(command) => command,
+            Err((number, byte)) => return End::Refused(number, byte),
+        };
+        let parts = run.left(&command, &held);
+        let (into, taken) = (run.state.into, run.taken);
+        let done = run.does(&parts[0], &command, &held);
+        shown(run, Did { part: &parts[0], command: &command, held: &held, into, bytes: run.taken - taken });
+        if let Err(end) = done {
+            return end;
+        }
+        if parts.len() == 1 {
+            run.passes(&command, &held, line.len());
+        }
+        if parts[0].stops() {
+            return End::Stop;
+        }
+    }
+    End::Done
+}
+
+/// The model of document 01, as document 02 has it by now: without stops, to where the run ends. A line that is begun is first brought to its
+/// end by calls.
+pub fn through(list: &[u8], mut areas: Areas, data: &[u8], mut state: State) -> Answer {
+    while state.ready != 0 || state.stretches != 0 {
+        let answer = call(list, areas.reborrow(), &[], state);
+        if answer.outcome != Outcome::Stop {
+            return answer;
+        }
+        state = answer.state;
+    }
+    match begin(list, areas, data, state) {
+        Ok((mut run, rules)) => {
+            let end = to_end(list, &rules, &mut run);
+            run.answers(end)
+        }
+        Err(refusal) => Answer { state, outcome: Outcome::Refused(refusal), taken: 0 },
+    }
+}
+
+/// Line after line.
+fn to_end(list: &[u8], rules: &Rules, run: &mut Run) -> End {
+    for line in list[run.state.at..].split_inclusive(|c| *c == b'\n') {
+        let held = stashes(&run.state);
+        let command = match judge(line, run.state.at, rules, &held) {
+            Ok(command) => command,
+            Err((number, byte)) => return End::Refused(number, byte),
+        };
+        let parts = match command {
+            Command::Free { .. } => vec![Part::Free],
+            _ => run.left(&command, &held),
+        };
+        for part in &parts {
+            if let Err(end) = run.does(part, &command, &held) {
+                return end;
+            }
+        }
+        run.passes(&command, &held, line.len());
+    }
+    End::Done
 }

@@ -10,7 +10,7 @@ mod sparse;
 mod stashes;
 mod text;
 
-pub use call::{call, run, Called};
+pub use call::{call, call_on, run, Called};
 pub use header::{header, Header};
 pub use open::{open, open_with};
 pub use sparse::load_sparse;

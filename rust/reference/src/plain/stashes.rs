@@ -25,6 +25,12 @@ impl State {
         sum
     }
 
+    /// In how many stretches a `free` of stash j, which has blocks, moves the younger ones.
+    pub(super) fn stretches_of(&self, j: usize) -> usize {
+        let younger = (self.blocks(self.count) - self.blocks(j + 1)) as usize;
+        younger.div_ceil(self.sizes[j])
+    }
+
     pub(super) fn hold(&mut self, hash: &Hash, size: usize) {
         let k = self.count;
         self.hashes[20 * k..20 * k + 20].copy_from_slice(hash);

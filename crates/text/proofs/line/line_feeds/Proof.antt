@@ -1,70 +1,97 @@
--- `text::line::line_feeds` meets its contract. The loop's invariant: the LFs so far, and those that are left, are all of them.
+-- `text::line::line_feeds` meets its contract. The loop's invariant: `n` is the count of the bytes before `i`.
 -- Assumes nothing.
-use mathlib.Core.Path.{_≡_, refl}
-use mathlib.Core.Logic.{⊎-elim}
-use Prim.Native.Nat.{ℕ, suc, _+_, _-_, _≤_, _<_}
-use native.Mathlib.Numerals.{add-one}
+use mathlib.Core.Path.{_≡_, ap, _∙_}
+use Prim.Native.Nat.{ℕ, _+_, _-_, _≤_}
 use native.Mathlib.Omega.{arith}
 use mathlib.Core.List.{List}
-use lib.ListN.{length, getD, drop, drop-of-length-le}
-use lib.Seq.{drop-cons}
-use borrow.Author.Tests.{eq-eqb, ne-eqb}
-use Rattle.text.specs.Expected.{lf}
+use lib.ListN.{length, take, drop, length-take, length-drop}
+use lib.Seq.{take-length}
 use Rattle.text.specs.Line.{lfsIn}
+use Rattle.text.proofs.LineLaws.{lfs-most, lfs-part, lfs-within}
 use Rattle.text.proofs.line.line_feeds.Statement.{statement}
 use Rattle.text.proofs.line.line_feeds.Tie as tie
 
--- the LFs from a position on
-lfsFrom : List ℕ → ℕ → ℕ
-lfsFrom s i = lfsIn (drop i s)
+-- the LFs before a position, and those from there to a later one
+lfs-up-to : (s : List ℕ) (i end : ℕ) → i ≤ end → lfsIn (take end s) ≡ lfsIn (take i s) + lfsIn (take (end - i) (drop i s))
+lfs-up-to s i end h =
+    let e : end ≡ i + (end - i) = omega arith in
+    ap (λ (k : ℕ). lfsIn (take k s)) e ∙ lfs-part s i (end - i)
 
-lfs-start : (s : List ℕ) → lfsFrom s 0 ≡ lfsIn s
-unfolding lfsFrom
-lfs-start s = refl
-
-module _ (s : List ℕ) (i : ℕ) where
-  lfs-end : length s ≤ i → lfsFrom s i ≡ 0
-  unfolding lfsFrom lfsIn
-  lfs-end h = rw (drop-of-length-le s h)
-
-  module _ (h : i < length s) where
-    lfs-lf : getD s i 0 ≡ lf → lfsFrom s i ≡ suc (lfsFrom s (i + 1))
-    unfolding lfsFrom lfsIn
-    lfs-lf e = rw (add-one i, drop-cons s i 0 h, eq-eqb (getD s i 0) lf e)
-
-    lfs-other : (getD s i 0 ≡ lf → ⊥) → lfsFrom s i ≡ lfsFrom s (i + 1)
-    unfolding lfsFrom lfsIn
-    lfs-other n = rw (add-one i, drop-cons s i 0 h, ne-eqb (getD s i 0) lf n)
+lfs-rest : (s : List ℕ) (i : ℕ) → i ≤ length s → lfsIn (take i s) + lfsIn (take (length s - i) (drop i s)) ≡ lfsIn s
+lfs-rest s i h = omega (arith, lfs-up-to s i (length s) h, ap lfsIn (take-length s))
 
 abbrev Inv-loop : tie.InvT-loop
-Inv-loop s n₀ i₀ n i = (i ≤ length s) × (n ≤ i) × (n + lfsFrom s i ≡ lfsIn s)
+Inv-loop s len n₀ i₀ n i = (i ≤ length s) × (n ≡ lfsIn (take i s))
 
 abbrev μ-loop : tie.MeasureT-loop
-μ-loop s n₀ i₀ n i = length s - i
+μ-loop s len n₀ i₀ n i = length s - i
 
 loop-holds : tie.Need-loop-holds Inv-loop μ-loop
-loop-holds c = omega (arith, lfs-start (c .args .s .now))
+unfolding lfsIn
+loop-holds c = omega arith
 
-shared-slice-read-if1 : tie.Need-shared-slice-read-if1 Inv-loop μ-loop
-shared-slice-read-if1 c = omega arith
+sub-loop : tie.Need-sub-loop Inv-loop μ-loop
+sub-loop c = omega arith
+
+add-end : tie.Need-add-end Inv-loop μ-loop
+add-end c = omega arith
+
+sub-part-feeds : tie.Need-sub-part-feeds Inv-loop μ-loop
+sub-part-feeds c = omega arith
+
+part-part-feeds-start : tie.Need-part-part-feeds-start Inv-loop μ-loop
+part-part-feeds-start c = omega arith
+
+part-part-feeds-end : tie.Need-part-part-feeds-end Inv-loop μ-loop
+part-part-feeds-end c = omega arith
+
+part-feeds-requires : tie.Need-part-feeds-requires Inv-loop μ-loop
+part-feeds-requires c κs = simp (length-take, length-drop) (omega arith)
+
+cast-n : tie.Need-cast-n Inv-loop μ-loop
+cast-n c = omega arith
 
 add-n : tie.Need-add-n Inv-loop μ-loop
-add-n c = omega arith
-
-add-i : tie.Need-add-i Inv-loop μ-loop
-add-i c = omega arith
+add-n c =
+    let l = c .before .before .before in
+    let s = l .before .before .args .s .now in
+    let i = l .loop .i in
+    omega (arith, lfs-up-to s i (i + 128) (omega arith), lfs-within s (i + 128))
 
 loop-less : tie.Need-loop-less Inv-loop μ-loop
 loop-less c = omega arith
 
 loop-again : tie.Need-loop-again Inv-loop μ-loop
 loop-again c =
-    let s = c .before .before .before .before .args .s .now in
-    let i = c .before .before .before .loop .i in
-    ⊎-elim (λ w. omega (arith, lfs-lf s i (omega arith) (w .0 .taken))) (λ w. omega (arith, lfs-other s i (omega arith) (w .0 .left))) (c .if1 .came)
+    let l = c .before .before .before in
+    let i = l .loop .i in
+    omega (arith, lfs-up-to (l .before .before .args .s .now) i (i + 128) (omega arith))
+
+sub-part-feeds-2 : tie.Need-sub-part-feeds-2 Inv-loop μ-loop
+sub-part-feeds-2 c = omega arith
+
+part-part-feeds-start-2 : tie.Need-part-part-feeds-start-2 Inv-loop μ-loop
+part-part-feeds-start-2 c = omega arith
+
+part-part-feeds-end-2 : tie.Need-part-part-feeds-end-2 Inv-loop μ-loop
+part-part-feeds-end-2 c = omega arith
+
+part-feeds-requires-2 : tie.Need-part-feeds-requires-2 Inv-loop μ-loop
+part-feeds-requires-2 c κs = simp (length-take, length-drop) (omega arith)
+
+cast-result : tie.Need-cast-result Inv-loop μ-loop
+cast-result c = omega arith
+
+add-result : tie.Need-add-result Inv-loop μ-loop
+add-result c =
+    let l = c .before .before .before in
+    let s = l .before .before .args .s .now in
+    omega (arith, lfs-rest s (l .loop .i) (omega arith), lfs-most s)
 
 returns : tie.Need-returns Inv-loop μ-loop
-returns c = omega (arith, lfs-end (c .before .before .args .s .now) (c .before .loop .i) (omega arith))
+returns c =
+    let l = c .before .before .before in
+    omega (arith, lfs-rest (l .before .before .args .s .now) (l .loop .i) (omega arith))
 
 pub line-feeds-spec : {M : Type 1} → statement M
 line-feeds-spec =
@@ -73,9 +100,20 @@ line-feeds-spec =
     Inv-loop
     μ-loop
     loop-holds
-    shared-slice-read-if1
+    sub-loop
+    add-end
+    sub-part-feeds
+    part-part-feeds-start
+    part-part-feeds-end
+    part-feeds-requires
+    cast-n
     add-n
-    add-i
     loop-less
     loop-again
+    sub-part-feeds-2
+    part-part-feeds-start-2
+    part-part-feeds-end-2
+    part-feeds-requires-2
+    cast-result
+    add-result
     returns)

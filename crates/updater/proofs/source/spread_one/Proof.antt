@@ -11,7 +11,7 @@ use Rattle.ranges.proofs.WalkLaws.{length-span}
 use Rattle.state.specs.Limits.{blockBytes}
 use Rattle.state.specs.Stashes.{Stash, tableAt, heldIn, findIn, sizeAt}
 use Rattle.state.specs.declared.stashes.Found.the-variants.{At}
-use Rattle.updater.specs.Source.{stashStart}
+use Rattle.state.specs.Stashes.{stashStart}
 use Rattle.updater.proofs.ByteLaws.{below-span}
 use Rattle.updater.proofs.SourceLaws.{walk-blocks, found-size, found-none, start-exact, stash-within, spread-by}
 use Rattle.updater.proofs.source.spread_one.Statement.{statement}

@@ -1,0 +1,9 @@
+pub mod OutsideLaws
+pub mod OverwriteLaws
+pub mod TogetherLaws
+pub mod ReadLaws
+pub mod FillLaws
+pub mod FreeLaws
+pub mod StepReadLaws
+pub mod RestartLaws
+pub mod ClaimLaws

@@ -1,0 +1,1 @@
+// What a run writes, and finishing after a cut: definitions and laws only.

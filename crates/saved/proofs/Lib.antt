@@ -1,0 +1,4 @@
+pub mod WordLaws
+pub mod PutLaws
+pub mod ReadLaws
+pub mod ClaimLaws

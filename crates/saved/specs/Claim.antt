@@ -1,0 +1,29 @@
+-- Document 02, R-9: what is saved is read back, and 20 is given exactly where the bytes are no state's saved form.
+-- Assumes nothing: these are definitions.
+use Prim.Native.Nat.{ℕ}
+use mathlib.Core.Path.{_≡_}
+use mathlib.Core.List.{List}
+use mathlib.Core.Logic.{_⊎_}
+use lib.ListN.{length}
+use Rattle.text.specs.Below.{AllBelow}
+use Rattle.state.specs.Refusals.{none, noSavedForm}
+use Rattle.state.specs.declared.State.{State}
+use Rattle.saved.specs.Layout.{savedBytes}
+use Rattle.saved.specs.Saved.{savedOf, Typed}
+use Rattle.saved.specs.Restored.{answered, noState, restoredOf}
+
+-- the bytes are the saved form of this state, and the state is one that its type can hold
+pub record FormOf (b : List ℕ) (s : State) : Type 0 where
+  pub typed : Typed s
+  pub form : savedOf s ≡ b
+
+pub record SavedClaim : Type 0 where
+  -- every state's saved form has the one length, and is read back as that state
+  pub one-length : (s : State) → Typed s → length (savedOf s) ≡ savedBytes
+  pub read-back : (s : State) → Typed s → restoredOf (savedOf s) ≡ answered s
+  -- a state is given only for its own saved form
+  pub own-form : (b : List ℕ) → AllBelow 256 b → restoredOf b .number ≡ none → FormOf b (restoredOf b .state)
+  -- 20 is the only other number; it comes with no state, and only where the bytes are no state's saved form
+  pub one-number : (b : List ℕ) → (restoredOf b .number ≡ none) ⊎ (restoredOf b .number ≡ noSavedForm)
+  pub no-state : (b : List ℕ) → restoredOf b .number ≡ noSavedForm → restoredOf b .state ≡ noState
+  pub no-form : (b : List ℕ) → restoredOf b .number ≡ noSavedForm → (s : State) → FormOf b s → ⊥

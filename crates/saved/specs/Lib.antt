@@ -1,0 +1,4 @@
+pub mod Layout
+pub mod Saved
+pub mod Restored
+pub mod Claim

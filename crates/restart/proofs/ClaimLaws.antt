@@ -39,7 +39,7 @@ use Rattle.updater.proofs.FitLaws.{fits-sound}
 use Rattle.restart.proofs.OutsideLaws.{areas-wider}
 use Rattle.restart.proofs.RestartLaws.{reads, restarts, covers}
 use Rattle.sequence.specs.Sequence.{CallsMade, noCalls, allCalls, lastSays}
-use Rattle.sequence.specs.Claim.{openedConfig, Accepted, Ended}
+use Rattle.sequence.specs.Claim.{openedConfig, Accepted, NoStop}
 use Rattle.restart.specs.Restart.{writes, Saves, Standing, opening, saved, cut, EndsAlike, RestartClaim}
 use Rattle.sequence.proofs.Running.{Into, Ready, Running}
 use Rattle.sequence.proofs.RunningLaws.{Stays, running-sound, running-stays, goes-stays}
@@ -299,8 +299,8 @@ module _ (s : List ℕ) (a : Areas) (e : Accepted s a) (bytes : List ℕ) where
       record { left = rw n (o .left); most = rw n (o .most) }
 
   restarted : {xs : List ℕ} {p : Config} → Standing s a bytes xs p → (q : List ℕ) (qs : List (List ℕ)) → joined (q ∷ qs) ≡ xs →
-      Ended (lastSays leastBlocks s q qs (noCalls p)) → (r : List ℕ) (rs : List (List ℕ)) → joined (r ∷ rs) ≡ bytes →
-      Ended (lastSays leastBlocks s r rs (noCalls (openedConfig s a))) → EndsAlike s a p q r qs rs
+      NoStop (lastSays leastBlocks s q qs (noCalls p)) → (r : List ℕ) (rs : List (List ℕ)) → joined (r ∷ rs) ≡ bytes →
+      NoStop (lastSays leastBlocks s r rs (noCalls (openedConfig s a))) → EndsAlike s a p q r qs rs
   restarted {xs} {p} z q qs j n r rs i m =
       let first = openedConfig s a in
       let x = stood z in

@@ -19,7 +19,7 @@ use Rattle.restart.specs.Writes.{Spot, AreasOutside, Agree, spots}
 use Rattle.updater.specs.declared.Outcome.{Outcome}
 use Rattle.updater.specs.declared.Outcome.the-variants as outcome
 use Rattle.sequence.specs.Sequence.{noCalls, allCalls, lastSays}
-use Rattle.sequence.specs.Claim.{openedConfig, Accepted, Ended}
+use Rattle.sequence.specs.Claim.{openedConfig, Accepted, NoStop}
 
 -- the bytes that the rules have the run write from p to the next stop or its end, xs being all the new data from there on
 abbrev pub writes : List ℕ → List ℕ → Config → Spot → Bool
@@ -49,12 +49,12 @@ pub record EndsAlike (s : List ℕ) (a : Areas) (p : Config) (q r : List ℕ) (q
 pub record RestartClaim : Type 0 where
   -- the saved state, with the new data that is left, ends as an uncut run does
   pub restarts : (s : List ℕ) (a : Areas) → Accepted s a → {bytes xs : List ℕ} {p : Config} → Standing s a bytes xs p →
-      (q : List ℕ) (qs : List (List ℕ)) → joined (q ∷ qs) ≡ xs → Ended (lastSays leastBlocks s q qs (noCalls p)) →
-      (r : List ℕ) (rs : List (List ℕ)) → joined (r ∷ rs) ≡ bytes → Ended (lastSays leastBlocks s r rs (noCalls (openedConfig s a))) →
+      (q : List ℕ) (qs : List (List ℕ)) → joined (q ∷ qs) ≡ xs → NoStop (lastSays leastBlocks s q qs (noCalls p)) →
+      (r : List ℕ) (rs : List (List ℕ)) → joined (r ∷ rs) ≡ bytes → NoStop (lastSays leastBlocks s r rs (noCalls (openedConfig s a))) →
       EndsAlike s a p q r qs rs
   -- and calling on comes to that end
   pub ends : (s : List ℕ) (a : Areas) → Accepted s a → {bytes xs : List ℕ} {p : Config} → Standing s a bytes xs p →
-      (q : List ℕ) (qs : List (List ℕ)) → Ended (lastSays leastBlocks s q (qs ++ replicate (lineSteps * (length s + 1)) []) (noCalls p))
+      (q : List ℕ) (qs : List (List ℕ)) → NoStop (lastSays leastBlocks s q (qs ++ replicate (lineSteps * (length s + 1)) []) (noCalls p))
   -- what is left is the new data from the state's total onward
   pub onward : (s : List ℕ) (a : Areas) → Accepted s a → {bytes xs : List ℕ} {p : Config} → Standing s a bytes xs p →
       length bytes < 2 ^ 64 → xs ≡ drop (p .state .total) bytes

@@ -29,7 +29,7 @@ use Rattle.updater.proofs.FitLaws.{quiet-total, put-total}
 use Rattle.sequence.specs.Model.{Model, model, modelStart, modelOutcome, runLines}
 use Rattle.sequence.specs.Sequence.{CallsMade, lastTakes, lastPiece}
 use Rattle.sequence.specs.Footprint.{OnlyWritten}
-use Rattle.sequence.specs.Claim.{openedConfig, Accepted, opened, callsMade, said, Ended, Holds, Agrees, Alike, Claim}
+use Rattle.sequence.specs.Claim.{openedConfig, Accepted, opened, callsMade, said, NoStop, Holds, Agrees, Alike, Claim}
 use Rattle.sequence.proofs.Running.{Running}
 use Rattle.sequence.proofs.RunningLaws.{running-sound}
 use Rattle.sequence.proofs.PossibleLaws.{none-into, running-possible}
@@ -134,7 +134,7 @@ module _ (s : List ℕ) (a : Areas) (e : Accepted s a) where
 
   module _ (q : List ℕ) (qs : List (List ℕ)) where
     -- calling on comes to an end
-    opened-ends : Ended (said s a q (qs ++ replicate (lineSteps * (length s + 1)) []))
+    opened-ends : NoStop (said s a q (qs ++ replicate (lineSteps * (length s + 1)) []))
     opened-ends = all-ends s lengths header first starts-callable q qs
 
     opened-whole : said s a q qs ≡ outcome.More → lastTakes leastBlocks s q qs (opened s a) ≡ length (lastPiece leastBlocks s q qs (opened s a))
@@ -144,7 +144,7 @@ module _ (s : List ℕ) (a : Areas) (e : Accepted s a) where
     opened-only = last-only s lengths header first starts-callable q qs
 
     -- the last one did not stop
-    module _ (n : Ended (said s a q qs)) where
+    module _ (n : NoStop (said s a q qs)) where
       opened-feeds : callsMade s a (q ∷ qs) .config ≡ feeds machineOpened (joined (q ∷ qs)) first
       opened-feeds = ended-feeds s lengths header first starts-callable q qs n
 
@@ -166,7 +166,7 @@ module _ (s : List ℕ) (a : Areas) (e : Accepted s a) where
             taken = ap (λ (x : Model). x .taken) m;
           }
 
-  opened-alike : (q r : List ℕ) (qs rs : List (List ℕ)) → joined (q ∷ qs) ≡ joined (r ∷ rs) → Ended (said s a q qs) → Ended (said s a r rs) →
+  opened-alike : (q r : List ℕ) (qs rs : List (List ℕ)) → joined (q ∷ qs) ≡ joined (r ∷ rs) → NoStop (said s a q qs) → NoStop (said s a r rs) →
       Alike s a q r qs rs
   opened-alike q r qs rs j n m =
       record {

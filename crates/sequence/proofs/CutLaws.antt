@@ -14,8 +14,8 @@ use lib.Seq.{take-all, drop-drop}
 use Rattle.text.specs.Choice.{pick, both}
 use Rattle.text.proofs.ChoiceLaws.{both-true}
 use Rattle.ranges.specs.Ranges.{leastBlocks}
+use Rattle.state.specs.Limits.{mostStashes, tableBytes}
 use Rattle.state.specs.Refusals.{none, stateImpossible}
-use Rattle.state.specs.Stashes.{Whole, tableOf}
 use Rattle.state.specs.States.{refusing}
 use Rattle.state.specs.declared.Lengths.{Lengths}
 use Rattle.state.specs.declared.State.{State}
@@ -40,7 +40,7 @@ use Rattle.updater.proofs.FitLaws.{fits-sound, put-burns-none}
 use Rattle.updater.proofs.CallLaws.{possible-fits, call-leaves, call-takes, call-says, call-most}
 use Rattle.sequence.specs.Model.{Model, model, modelOutcome}
 use Rattle.sequence.specs.Sequence.{CallsMade, noCalls, pieceOf, nextCall, allCalls, lastSays}
-use Rattle.sequence.specs.Claim.{openedConfig, Accepted, Ended}
+use Rattle.sequence.specs.Claim.{openedConfig, Accepted, NoStop}
 use Rattle.sequence.specs.Cuts.{CallsOn, pastStops, runAll, RunAgrees, RunMeets, RunClaim}
 use Rattle.sequence.proofs.Running.{Running}
 use Rattle.sequence.proofs.RunningLaws.{running-sound}
@@ -49,6 +49,12 @@ use Rattle.sequence.proofs.SequenceLaws.{outcome-no-stop, Callable, all
 use Rattle.sequence.proofs.ClaimLaws.{claim, header, starts-callable, model-feeds, feeds-holds}
 
 -- ---- a call that stops
+
+-- the tables have their lengths and the total is a word, as in every state that the code can hold
+pub record Sized (state : State) : Type 0 where
+  pub hashes : length (state .hashes) ≡ tableBytes
+  pub sizes : length (state .sizes) ≡ mostStashes
+  pub total : state .total < 2 ^ 64
 
 -- the steps that are left at the most: no more calls can stop
 abbrev pub stopsLeft : List ℕ → Config → ℕ
@@ -72,8 +78,8 @@ module _ (s q : List ℕ) (p : Config) where
       go true false c e = absurd (let z : _≡_ {A = ℕ} 0 1 = cc in omega arith)
       go false b c e = absurd (outcome-no-stop s (p .state) e)
 
-  -- where the tables have their lengths, and the total is a word
-  module _ (whole : Whole (tableOf (p .state))) (total : p .state .total < 2 ^ 64) (e : says leastBlocks s q p ≡ outcome.Stop) where
+  -- from such a state
+  module _ (sized : Sized (p .state)) (e : says leastBlocks s q p ≡ outcome.Stop) where
     abbrev terms : Terms
     terms = termsFor s (lengthsAt s (p .areas))
 
@@ -82,7 +88,7 @@ module _ (s q : List ℕ) (p : Config) where
     stop-fits =
         possible-fits s p
         (both-true (eqb (p .state .refusal .number) none) (isPossible leastBlocks s (lengthsAt s (p .areas)) (p .state)) (says-stop e .0) .1)
-        (whole .hashes) (whole .sizes) total
+        (sized .hashes) (sized .sizes) (sized .total)
 
     -- .. it has cost a step
     stop-burns : stopsLeft s (leaves leastBlocks s q p) < stopsLeft s p
@@ -93,12 +99,12 @@ module _ (s q : List ℕ) (p : Config) where
         (call-burns (machine leastBlocks s terms) (haltsAt leastBlocks s terms) (Fits s terms) (fits-sound s terms)
         (λ m y v w t. put-burns-none s terms m y) q p stop-fits .less (rw (x .0) at (x .1)))
 
-    -- .. and they are so after it
-    stop-keeps : Whole (tableOf (leaves leastBlocks s q p .state)) × (leaves leastBlocks s q p .state .total < 2 ^ 64)
+    -- .. and it leaves such a state
+    stop-keeps : Sized (leaves leastBlocks s q p .state)
     unfolding leaves runOf
     stop-keeps =
         let f = call-keeps (machine leastBlocks s terms) (haltsAt leastBlocks s terms) (Fits s terms) (fits-sound s terms) q p stop-fits in
-        rw (says-stop e .0) (f .whole, f .total)
+        rw (says-stop e .0) (record { hashes = f .whole .hashes; sizes = f .whole .sizes; total = f .total })
 
 -- ---- the loop that calls on
 
@@ -137,13 +143,12 @@ pub record CallingOn (s piece : List ℕ) (p₀ p : Config) (at : ℕ) : Type 0 
   pub stopped : ℕ
   pub made : allCalls leastBlocks s (replicate stopped []) (handedOn p₀ piece 0) ≡ handedOn p (drop at piece) at
   pub within : at ≤ length piece
-  pub whole : Whole (tableOf (p .state))
-  pub total : p .state .total < 2 ^ 64
+  pub sized : Sized (p .state)
 
 module _ (s piece : List ℕ) where
-  pub calling-start : (p : Config) → Whole (tableOf (p .state)) → p .state .total < 2 ^ 64 → CallingOn s piece p p 0
+  pub calling-start : (p : Config) → Sized (p .state) → CallingOn s piece p p 0
   unfolding allCalls
-  calling-start p w t = record { stopped = 0; made = refl; within = omega arith; whole = w; total = t }
+  calling-start p t = record { stopped = 0; made = refl; within = omega arith; sized = t }
 
   module _ {p₀ p : Config} {at : ℕ} (v : CallingOn s piece p₀ p at) {areas : Areas} {called : Called}
       (r : resultOf areas called ≡ callOf leastBlocks s (take (length piece - at) (drop at piece)) p) where
@@ -181,7 +186,7 @@ module _ (s piece : List ℕ) where
     -- the call stopped
     module _ (e : called .outcome ≡ outcome.Stop) where
       pub calling-burns : stopsLeft s (configOf areas (called .state)) < stopsLeft s p
-      calling-burns = rw next-config (stop-burns s (drop at piece ++ []) p (v .whole) (v .total) (sym next-says ∙ e))
+      calling-burns = rw next-config (stop-burns s (drop at piece ++ []) p (v .sized) (sym next-says ∙ e))
 
       next-rest : next .rest ≡ drop (at + called .taken) piece
       next-rest =
@@ -193,22 +198,20 @@ module _ (s piece : List ℕ) where
 
       pub calling-more : CallingOn s piece p₀ (configOf areas (called .state)) (at + called .taken)
       calling-more =
-          let kept : Whole (tableOf (called .state)) × (called .state .total < 2 ^ 64) =
-          subst (λ (m : Config). Whole (tableOf (m .state)) × (m .state .total < 2 ^ 64)) (sym next-config)
-          (stop-keeps s (drop at piece ++ []) p (v .whole) (v .total) (sym next-says ∙ e)) in
           record {
             stopped = suc (v .stopped);
             made = next-made ∙ made-eq (sym next-config) next-rest (sym next-taken);
             within = calling-within;
-            whole = kept .0;
-            total = kept .1;
+            sized =
+                subst (λ (m : Config). Sized (m .state)) (sym next-config)
+                (stop-keeps s (drop at piece ++ []) p (v .sized) (sym next-says ∙ e));
           }
         where
           made-eq : {m n : Config} {x y : List ℕ} {i j : ℕ} → m ≡ n → x ≡ y → i ≡ j → handedOn m x i ≡ handedOn n y j
           made-eq a b c = rw (a, b, c)
 
     -- it did not
-    pub calling-ends : Ended (called .outcome) →
+    pub calling-ends : NoStop (called .outcome) →
         CallsOn s piece p₀ (resultOf areas (record { state = called .state; outcome = called .outcome; taken = at + called .taken }))
     calling-ends n =
         let all = first-calls s piece p₀ (v .stopped) ∙ next-made in
@@ -243,7 +246,7 @@ module _ (s : List ℕ) (lengths : Lengths) (h : Header) (piece : List ℕ) (p :
   abbrev machineOn : Machine
   machineOn = machine leastBlocks s (termsOf lengths h)
 
-  said-last : Ended (lastSays leastBlocks s piece (replicate (k .stops) []) (noCalls p))
+  said-last : NoStop (lastSays leastBlocks s piece (replicate (k .stops) []) (noCalls p))
   said-last e = k .ended (k .outcome ∙ e)
 
   on-is : configOf (r .areas) (r .called .state) ≡ allCalls leastBlocks s (piece ∷ replicate (k .stops) []) (noCalls p) .config
@@ -311,10 +314,6 @@ module _ (s bytes : List ℕ) {p₀ p : Config} {from total : ℕ} (v : Cutting 
 
   abbrev machineCut : Machine
   machineCut = machine leastBlocks s (termsOf lengthsCut (v .header))
-
-  -- what calling on requires of the state
-  pub cutting-state : Whole (tableOf (p .state)) × (p .state .total < 2 ^ 64)
-  cutting-state = (v .callable .running .fits .whole, v .callable .running .fits .total)
 
   -- a piece of the bytes that are left
   module _ {end : ℕ} (l : from ≤ end) (m : end ≤ length bytes) {r : Result} (k : CallsOn s (take (end - from) (drop from bytes)) p r) where

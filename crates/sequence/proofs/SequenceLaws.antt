@@ -37,7 +37,7 @@ use Rattle.updater.specs.declared.Outcome.{Outcome}
 use Rattle.updater.specs.declared.Outcome.the-variants as outcome
 use Rattle.updater.proofs.FitLaws.{put-burns-none, quiet-total, put-total}
 use Rattle.sequence.specs.Sequence.{CallsMade, noCalls, nextCall, allCalls, lastSays, lastTakes, lastPiece}
-use Rattle.sequence.specs.Claim.{Ended}
+use Rattle.sequence.specs.Claim.{NoStop}
 use Rattle.sequence.proofs.Running.{Running}
 use Rattle.sequence.proofs.RunningLaws.{running-line, running-only, running-sound}
 use Rattle.sequence.proofs.PossibleLaws.{none-into, running-into, running-possible, running-terms, stop-into}
@@ -82,7 +82,7 @@ stop-halted s e q = go (e .halted) q
     go true q = refl
     go false q = absurd (outcome-no-stop s (e .config .state) q)
 
-ended-goes : (s : List ℕ) (e : Halted Config) → Ended (saidAt s e) → e .halted ≡ false
+ended-goes : (s : List ℕ) (e : Halted Config) → NoStop (saidAt s e) → e .halted ≡ false
 ended-goes s e q = go (e .halted) q
   where
     go : (b : Bool) → (pick b outcome.Stop (outcomeOf s (e .config .state)) ≡ outcome.Stop → ⊥) → b ≡ false
@@ -337,7 +337,7 @@ module _ (s : List ℕ) (lengths : Lengths) (h : Header) where
       more-sent e = more-goes s (sent .end) (sym said-sent ∙ e) .1
 
       -- calling on comes to an end: each stop has cost a step
-      pub all-ends : Ended (lastSays leastBlocks s q (qs ++ replicate (lineSteps * (length s + 1)) []) (noCalls p))
+      pub all-ends : NoStop (lastSays leastBlocks s q (qs ++ replicate (lineSteps * (length s + 1)) []) (noCalls p))
       all-ends f =
           let n = lineSteps * (length s + 1) in
           let stopped = stop-halted s (sendAll machineHere haltsHere (q ∷ (qs ++ replicate n [])) (start p) .end) (sym (last-says q (qs ++ replicate n []) (start p) v) ∙ f) in
@@ -348,7 +348,7 @@ module _ (s : List ℕ) (lengths : Lengths) (h : Header) where
           never (sym stopped ∙ on ∙ ends)
 
       -- a sequence of calls whose last one did not stop
-      module _ (e : Ended (lastSays leastBlocks s q qs (noCalls p))) where
+      module _ (e : NoStop (lastSays leastBlocks s q qs (noCalls p))) where
         ended-sent : sent .end .halted ≡ false
         ended-sent = ended-goes s (sent .end) (λ f. e (said-sent ∙ f))
 

@@ -45,8 +45,8 @@ abbrev pub said : List ℕ → Areas → List ℕ → List (List ℕ) → Outcom
 said s a q qs = lastSays leastBlocks s q qs (opened s a)
 
 -- done, more or refused: not a stop
-abbrev pub Ended : Outcome → Type 0
-Ended o = o ≡ outcome.Stop → ⊥
+abbrev pub NoStop : Outcome → Type 0
+NoStop o = o ≡ outcome.Stop → ⊥
 
 -- a state equals what the model gives: the model's stashes, current line, bytes into a `new` and refusal, and the lengths at opening; its total
 -- is the model's bytes taken (R-9), and nothing is ready or moved in part
@@ -81,14 +81,14 @@ pub record Claim : Type 0 where
   pub decided : (s : List ℕ) (a : Areas) → openState leastBlocks s (lengthsAt s a) .refusal .number ≡ none → Accepted s a
   -- the calls end as the model does for the pieces joined, whenever the last one did not stop
   pub agrees : (s : List ℕ) (a : Areas) → Accepted s a →
-      (q : List ℕ) (qs : List (List ℕ)) → Ended (said s a q qs) → Agrees s a q qs (model leastBlocks s a (joined (q ∷ qs)))
+      (q : List ℕ) (qs : List (List ℕ)) → NoStop (said s a q qs) → Agrees s a q qs (model leastBlocks s a (joined (q ∷ qs)))
   -- calling on comes to an end
   pub ends : (s : List ℕ) (a : Areas) → Accepted s a →
-      (q : List ℕ) (qs : List (List ℕ)) → Ended (said s a q (qs ++ replicate (lineSteps * (length s + 1)) []))
+      (q : List ℕ) (qs : List (List ℕ)) → NoStop (said s a q (qs ++ replicate (lineSteps * (length s + 1)) []))
   -- sequences that join alike end alike
   pub alike : (s : List ℕ) (a : Areas) → Accepted s a →
       (q r : List ℕ) (qs rs : List (List ℕ)) → joined (q ∷ qs) ≡ joined (r ∷ rs) →
-      Ended (said s a q qs) → Ended (said s a r rs) → Alike s a q r qs rs
+      NoStop (said s a q qs) → NoStop (said s a r rs) → Alike s a q r qs rs
   -- at a stop too the state's total is the sum of bytes taken
   pub totals : (s : List ℕ) (a : Areas) → Accepted s a →
       (qs : List (List ℕ)) → callsMade s a qs .config .state .total ≡ callsMade s a qs .taken % 2 ^ 64

@@ -20,7 +20,7 @@ use Rattle.updater.specs.Calls.{lengthsAt, outcomeOf, Result, resultOf}
 use Rattle.updater.specs.declared.Outcome.the-variants as outcome
 use Rattle.sequence.specs.Model.{Model, model, modelOutcome}
 use Rattle.sequence.specs.Sequence.{noCalls, allCalls, lastSays}
-use Rattle.sequence.specs.Claim.{openedConfig, Accepted, Ended, Holds}
+use Rattle.sequence.specs.Claim.{openedConfig, Accepted, NoStop, Holds}
 
 -- calls, until one does not stop: the first has the piece, and each after it the bytes not taken. A result is what they come to
 pub record CallsOn (s piece : List ℕ) (p : Config) (r : Result) : Type 0 where
@@ -29,7 +29,7 @@ pub record CallsOn (s piece : List ℕ) (p : Config) (r : Result) : Type 0 where
   pub state : r .called .state ≡ allCalls leastBlocks s (piece ∷ replicate stops []) (noCalls p) .config .state
   pub outcome : r .called .outcome ≡ lastSays leastBlocks s piece (replicate stops []) (noCalls p)
   pub taken : r .called .taken ≡ allCalls leastBlocks s (piece ∷ replicate stops []) (noCalls p) .taken
-  pub ended : Ended (r .called .outcome)
+  pub ended : NoStop (r .called .outcome)
 
 -- a run past every stop, over all the data
 abbrev pub pastStops : List ℕ → Terms → List ℕ → Config → Result

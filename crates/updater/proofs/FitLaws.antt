@@ -1,16 +1,16 @@
 -- The machine that runs a list is sound on configurations that fit: each step keeps them fitting, and each step without a byte moves on or
 -- refuses. And the bytes taken in all: only the step by a byte counts one.
 -- Assumes nothing.
-use mathlib.Core.Path.{_≡_, refl, ap, _∙_}
+use mathlib.Core.Path.{_≡_, refl}
 use mathlib.Core.Bool.{Bool, true, false}
 use mathlib.Core.List.{List}
-use Prim.Native.Nat.{ℕ, _+_, _-_, _*_, _%_, _^_, _≤_, _<_}
+use Prim.Native.Nat.{ℕ, _+_, _-_, _%_, _^_, _≤_, _<_}
 use native.Mathlib.Nat.{mod-lt}
 use native.Mathlib.Omega.{arith}
 use borrow.Author.Tests.{leb-false, eqb-true, eqb-false, eq-eqb, ne-eqb}
 use lib.Dec.{leb, eqb}
 use lib.ListN.{length, length-set}
-use Rattle.text.specs.Choice.{pick, either, no}
+use Rattle.text.specs.Choice.{pick, no}
 use Rattle.text.proofs.ChoiceLaws.{picks, either-false, either-is, no-false}
 use Rattle.text.proofs.LineLaws.{line-some, line-within}
 use Rattle.ranges.specs.Ranges.{leastBlocks}

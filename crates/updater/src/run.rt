@@ -134,7 +134,7 @@ fn pass(progress: Progress, count: usize, n: usize) -> Progress
 }
 
 // What a step leaves of a state besides its tables, and whether the run stops for saving.
-pub(crate) struct Went {
+pub(crate) struct Left {
     pub progress: Progress,
     pub stop: bool,
 }
@@ -147,7 +147,7 @@ fn after_step(
     sizes: &mut [usize; MOST_STASHES],
     progress: Progress,
     end: StepEnd,
-) -> Went
+) -> Left
     requires { ⌜ (progress .at + length (now l) < 2 ^ 64) × (progress .line + 1 < 2 ^ 64) × (progress .stretches + 1 < 2 ^ 64) ⌝ }
     ensures { λ r. ⌜ stateWith (now (hashes .exit)) (now (sizes .exit)) (r .progress)
         ≡ stateAfter (now (l .entry)) (line .hash) (line .command) (stateWith (now (hashes .entry)) (now (sizes .entry)) progress) end ⌝ }
@@ -156,27 +156,27 @@ fn after_step(
     match end {
         StepEnd::Passed => {
             let count = hold_after(hashes, sizes, progress.count, line);
-            Went {
+            Left {
                 progress: pass(progress, count, l.len()),
                 stop: false,
             }
         }
         StepEnd::Ended => {
             let count = hold_after(hashes, sizes, progress.count, line);
-            Went {
+            Left {
                 progress: pass(progress, count, l.len()),
                 stop: true,
             }
         }
-        StepEnd::Filled => Went {
+        StepEnd::Filled => Left {
             progress: stay(progress, 1, progress.stretches),
             stop: true,
         },
-        StepEnd::Stretched => Went {
+        StepEnd::Stretched => Left {
             progress: stay(progress, progress.ready, progress.stretches + 1),
             stop: true,
         },
-        StepEnd::Refused(number) => Went {
+        StepEnd::Refused(number) => Left {
             progress: refuse(progress, number, 0),
             stop: false,
         },

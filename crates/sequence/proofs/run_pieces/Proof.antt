@@ -5,31 +5,38 @@ use Prim.Native.Nat.{_-_, _≤_}
 use native.Mathlib.Omega.{arith}
 use borrow.Author.Needs.{needs}
 use lib.ListN.{length}
+use Rattle.state.specs.States.{stateWith}
 use Rattle.updater.specs.Areas.{areasOf}
 use Rattle.updater.specs.Steps.{configOf}
-use Rattle.sequence.proofs.CutLaws.{Cutting, cutting-start, cutting-state, cutting-within, cutting-more, cutting-ends, run-refused, run-accepted, with-claim}
+use Rattle.sequence.proofs.CutLaws.{Cutting, cutting-start, cutting-within, cutting-more, cutting-ends, run-refused, run-accepted, with-claim}
 use Rattle.sequence.proofs.run_pieces.Statement.{statement}
 use Rattle.sequence.proofs.run_pieces.Tie as tie
 
 -- The areas keep their lengths, and the bytes that are left come to what all of them come to.
 abbrev Inv-loop : tie.InvT-loop
-Inv-loop list image₀ stash₀ work₀ result₀ patch bytes cuts s₀ total₀ from₀ k₀ image stash work result s total from k =
+Inv-loop list image₀ stash₀ work₀ result₀ patch bytes cuts hashes₀ sizes₀ progress₀ total₀ from₀ k₀ image stash work result hashes sizes progress total from k =
     (length image ≡ length image₀)
     × (length stash ≡ length stash₀)
     × (length work ≡ length work₀)
     × (length result ≡ length result₀)
-    × Cutting list bytes (configOf (areasOf image₀ stash₀ work₀ result₀ patch) s₀) (configOf (areasOf image stash work result patch) s) from total
+    × Cutting list bytes
+    (configOf (areasOf image₀ stash₀ work₀ result₀ patch) (stateWith hashes₀ sizes₀ progress₀))
+    (configOf (areasOf image stash work result patch) (stateWith hashes sizes progress)) from total
 
 abbrev μ-loop : tie.MeasureT-loop
-μ-loop list image₀ stash₀ work₀ result₀ patch bytes cuts s₀ total₀ from₀ k₀ image stash work result s total from k = length cuts - k
+μ-loop list image₀ stash₀ work₀ result₀ patch bytes cuts hashes₀ sizes₀ progress₀ total₀ from₀ k₀ image stash work result hashes sizes progress total from k =
+    length cuts - k
 
 -- ---- places of the code
 
-abbrev start : tie.Else1 Inv-loop μ-loop → tie.Start Inv-loop μ-loop
-start c = c .before .before .before .before .before .before .before .before .before .before .before .before
+abbrev accepted : tie.After-lengths Inv-loop μ-loop → tie.Else1 Inv-loop μ-loop
+accepted c = c .before .before .before
+
+abbrev start : tie.After-lengths Inv-loop μ-loop → tie.Start Inv-loop μ-loop
+start c = accepted c .before .before .before .before .before .before .before .before .before .before .before .before
 
 abbrev cut : tie.After-call-on Inv-loop μ-loop → tie.After-piece-end Inv-loop μ-loop
-cut c = c .before .before .before .before .before .before
+cut c = c .before .before .before .before .before .before .before .before
 
 abbrev turn : tie.After-piece-end Inv-loop μ-loop → tie.In-loop Inv-loop μ-loop
 turn c = c .before .before
@@ -38,10 +45,10 @@ abbrev called : tie.After-struct-known2 Inv-loop μ-loop → tie.After-call-on I
 called c = c .before .before .before .before .before .before .before .before .before .before
 
 abbrev left : tie.After-call-on2 Inv-loop μ-loop → tie.After-loop Inv-loop μ-loop
-left c = c .before .before .before .before .before .before
+left c = c .before .before .before .before .before .before .before .before
 
 abbrev last : tie.After-struct-known3 Inv-loop μ-loop → tie.After-call-on2 Inv-loop μ-loop
-last c = c .before .before .before .before .before .before .before .before .before .before
+last c = c .before .before .before .before .before .before .before .before .before .before .before .before
 
 -- ---- the opening
 
@@ -54,7 +61,7 @@ returns c = with-claim _ _ _ (run-refused _ _ _ (c .before .before .before .«op
 -- ---- a turn
 
 loop-holds : tie.Need-loop-holds Inv-loop μ-loop
-loop-holds c = (refl, refl, refl, refl, cutting-start _ _ _ (c .before .before .before .«open» .ensures) (c .if1 .left))
+loop-holds c = let e = accepted c in (refl, refl, refl, refl, cutting-start _ _ _ (e .before .before .before .«open» .ensures) (e .if1 .left))
 
 mul-piece-end : tie.Need-mul-piece-end Inv-loop μ-loop
 mul-piece-end c = omega (arith, start (c .before .before) .good .1 .1 .1 .1 .1 .1 .1 .0)
@@ -75,7 +82,7 @@ part-call-on-end : tie.Need-part-call-on-end Inv-loop μ-loop
 part-call-on-end c = search needs
 
 call-on-requires : tie.Need-call-on-requires Inv-loop μ-loop
-call-on-requires c κs = cutting-state _ _ (turn (c .before .before .before .before .before) .before .loop .inv .4)
+call-on-requires c κs = tt
 
 -- a piece ends within the data
 ends-within : (c : tie.After-piece-end Inv-loop μ-loop) →
@@ -91,10 +98,10 @@ add-total c =
     omega (arith, cutting-within _ _ (l .loop .inv .4) (w .0) (w .1) (d .call-on .ensures), start (l .before) .good .1 .1 .1 .1 .1 .1 .0 .0)
 
 add-k : tie.Need-add-k Inv-loop μ-loop
-add-k c = omega (arith, start (turn (cut (called c)) .before .before) .good .1 .1 .1 .1 .1 .1 .1 .0 .0)
+add-k c = let t = turn (cut (called c)) in omega (arith, t .loop-test .taken, start (t .before .before) .good .1 .1 .1 .1 .1 .1 .1 .0 .0)
 
 loop-less : tie.Need-loop-less Inv-loop μ-loop
-loop-less c = omega arith
+loop-less c = omega (arith, turn (cut (called c)) .loop-test .taken)
 
 loop-again : tie.Need-loop-again Inv-loop μ-loop
 loop-again c =
@@ -122,10 +129,10 @@ part-call-on-end-2 : tie.Need-part-call-on-end-2 Inv-loop μ-loop
 part-call-on-end-2 c = search needs
 
 call-on-requires-2 : tie.Need-call-on-requires-2 Inv-loop μ-loop
-call-on-requires-2 c κs = cutting-state _ _ (c .before .before .before .before .before .before .loop .inv .4)
+call-on-requires-2 c κs = tt
 
-add-t21 : tie.Need-add-t21 Inv-loop μ-loop
-add-t21 c =
+add-t26 : tie.Need-add-t26 Inv-loop μ-loop
+add-t26 c =
     let d = last c in
     let l = left d .before in
     omega (
@@ -135,22 +142,22 @@ add-t21 c =
     )
 
 same-length : tie.Need-same-length Inv-loop μ-loop
-same-length c = search needs
+same-length c = let d = last c in d .call-on2 .kept .1 .0 ∙ left d .before .loop .inv .0
 
 same-length-2 : tie.Need-same-length-2 Inv-loop μ-loop
-same-length-2 c = search needs
+same-length-2 c = let d = last c in d .call-on2 .kept .1 .1 .0 ∙ left d .before .loop .inv .1
 
 same-length-3 : tie.Need-same-length-3 Inv-loop μ-loop
-same-length-3 c = search needs
+same-length-3 c = let d = last c in d .call-on2 .kept .1 .1 .1 .0 ∙ left d .before .loop .inv .2
 
 same-length-4 : tie.Need-same-length-4 Inv-loop μ-loop
-same-length-4 c = search needs
+same-length-4 c = let d = last c in d .call-on2 .kept .1 .1 .1 .1 .0 ∙ left d .before .loop .inv .3
 
 returns-2 : tie.Need-returns-2 Inv-loop μ-loop
 returns-2 c =
     let d = last c in
     let t = left d in
-    let u = t .before .before in
+    let u = accepted (t .before .before) in
     with-claim _ _ _
     (run-accepted _ _ _ (u .before .before .before .«open» .ensures) (u .if1 .left)
     (cutting-ends _ _ (t .before .loop .inv .4) (d .call-on2 .ensures)))
@@ -179,7 +186,7 @@ run-pieces-spec =
     part-call-on-start-2
     part-call-on-end-2
     call-on-requires-2
-    add-t21
+    add-t26
     same-length
     same-length-2
     same-length-3

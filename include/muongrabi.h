@@ -4,7 +4,7 @@
  *
  * For C99 and C++98, and later ones. Link with libmuongrabi.a: `pkg-config --cflags --libs muongrabi` after `./install PREFIX`, or
  * target/staticlib/libmuongrabi.a as it is built. The archive is for x86-64 Linux, and not yet for AArch64; it wants memcpy, memmove and
- * memset of the C library, at most 52 KiB of stack, a call 8 KiB, and nothing else. Nothing is allocated, no file is opened and no state is
+ * memset of the C library, at most 52 KiB of stack, a call 13 KiB, and nothing else. Nothing is allocated, no file is opened and no state is
  * kept inside: everything a function works on is lent by the caller, and what must be remembered between calls is the caller's state.
  *
  *     muongrabi_state state = muongrabi_open(list, list_length, image_length, stash_length, work_length, result_length, patch_length);

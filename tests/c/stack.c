@@ -18,7 +18,7 @@
 #define STACK ((size_t)64 << 10)   /* bytes of a thread's whole stack */
 /* What the header says: of any function, and of a call. */
 #define MOST_TAKEN ((size_t)52 << 10)
-#define MOST_OF_CALL ((size_t)8 << 10)
+#define MOST_OF_CALL ((size_t)13 << 10)
 #define PAINT 0xa7
 
 static int passed, failed;

@@ -10,8 +10,8 @@ use reference::model::{writes, Writes};
 use reference::{Answer, Areas, Outcome, Rooms, State, BLOCK};
 use std::ops::Range;
 
-/// What a segment is, by how it ends.
-const SEGMENTS: [&str; 13] = [
+/// What a segment is, by how it ends; then what else it has.
+const SEGMENTS: [&str; 18] = [
     "a move filled",
     "a stash filled",
     "a bsdiff filled",
@@ -24,7 +24,12 @@ const SEGMENTS: [&str; 13] = [
     "the end, done",
     "the end, more",
     "the end, refused",
-    "zeros or new data on the way to a filling",
+    "a source of the image",
+    "a source of stashes",
+    "a source of both",
+    "zeros on the way",
+    "new data on the way",
+    "a stash freed on the way",
 ];
 
 /// The areas, as they are in storage.
@@ -254,8 +259,7 @@ impl<'a> Cuts<'a> {
         let after = next.map_or(&uncut.stored, |next| &next.stored);
         let w = written(run, stand)?;
         stays(&stand.stored, after, &w)?;
-        self.segments[kind(&run.list, &stand.state, next.map(|next| &next.state), &uncut.answer)] += 1;
-        self.segments[12] += (next.is_some_and(|next| next.state.ready != 0) && !w.image.is_empty()) as u64;
+        self.count(&run.list, &stand.state, next.map(|next| &next.state), &uncut.answer);
         let count = w.count();
         for number in 0..self.effort.cuts {
             // Behind the first byte and the last one, at block borders, and anywhere.
@@ -324,6 +328,25 @@ impl<'a> Cuts<'a> {
             }
         }
         Ok(())
+    }
+
+    fn count(&mut self, list: &[u8], state: &State, next: Option<&State>, end: &Answer) {
+        let kind = kind(list, state, next, end);
+        self.segments[kind] += 1;
+        let to = next.unwrap_or(&end.state).at;
+        if let 0 | 2 = kind {
+            let fields: Vec<&[u8]> = list[to..].split(|c| *c == b'\n').next().unwrap_or(b"").split(|c| *c == b' ').collect();
+            let source = &fields[if kind == 0 { 4 } else { 7 }..];
+            self.segments[if source.len() == 1 { 12 } else { 14 - (source[0] == b"-") as usize }] += 1;
+        }
+        // Lines that were passed, and a `new` that waits for more.
+        let waits = if end.state.into != 0 && next.is_none() { b"new ".len() } else { 0 };
+        let passed = to + waits;
+        for (k, words) in [&[&b"zero "[..], b"erase "][..], &[b"new "], &[b"free "]].iter().enumerate() {
+            let has = |line: &[u8]| words.iter().any(|word| line.starts_with(word));
+            let youngest = k < 2 || !matches!(kind, 7 | 8);
+            self.segments[15 + k] += (youngest && list[state.at..passed].split(|c| *c == b'\n').any(has)) as u64;
+        }
     }
 
     /// How often each kind of segment was cut.

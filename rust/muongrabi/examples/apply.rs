@@ -159,15 +159,17 @@ fn apply(text: &[u8], image: &str, new: &str, patch: Option<&str>) -> Result<Res
         }
     };
     image_file.put(updater.image())?;
-    if outcome == Outcome::Done {
-        // The saved form goes first: without it the next run begins anew.
-        named(&saved, fs::remove_file(&saved))?;
-        sync_folder(image)?;
-        for area in [stash_file, work_file, result_file] {
-            named(&area.name, fs::remove_file(&area.name))?;
-        }
-    }
     Ok(Ok((outcome, updater.state().total())))
+}
+
+/// Removes what a run that is done has left beside the image. The saved form goes first: without it the next run begins anew.
+fn clean(image: &str) -> Result<(), String> {
+    for ending in ["saved", "stash", "work", "result"] {
+        let name = format!("{image}.{ending}");
+        named(&name, fs::remove_file(&name))?;
+        sync_folder(image)?;
+    }
+    Ok(())
 }
 
 /// Bytes of a line that are shown at most.
@@ -188,6 +190,12 @@ fn shown(list: &[u8], byte: usize) -> Option<String> {
     Some(format!("    {cut}{part}{rest}\n    {:width$}^", "", width = cut.len() + byte - from))
 }
 
+/// A file cannot be read or written.
+fn failed(error: &str) -> ExitCode {
+    eprintln!("{error}");
+    ExitCode::from(2)
+}
+
 fn main() -> ExitCode {
     let words: Vec<String> = std::env::args().skip(1).collect();
     let ([list, image, new], patch) = match &words[..] {
@@ -201,7 +209,7 @@ fn main() -> ExitCode {
     match named(list, fs::read(list)).and_then(|text| apply(&text, image, new, patch).map(|ended| (text, ended))) {
         Ok((_, Ok((Outcome::Done, taken)))) => {
             println!("done {taken}");
-            return ExitCode::SUCCESS;
+            return clean(image).map_or_else(|error| failed(&error), |()| ExitCode::SUCCESS);
         }
         Ok((_, Ok((Outcome::More | Outcome::Stop, taken)))) => println!("more {taken}"),
         Ok((text, Ok((Outcome::Refused(refusal), _)) | Err(refusal))) => {
@@ -213,10 +221,7 @@ fn main() -> ExitCode {
                 println!("    {image}.saved is of another update");
             }
         }
-        Err(error) => {
-            eprintln!("{error}");
-            return ExitCode::from(2);
-        }
+        Err(error) => return failed(&error),
     }
     ExitCode::from(1)
 }

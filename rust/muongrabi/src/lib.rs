@@ -7,7 +7,7 @@
 //! exactly when it meets the rules, and then does what they say, in order; and however the new data is cut into pieces, what stands after the
 //! last call is what the rules give for the pieces joined; and a run that was cut at any byte, and goes on from the state saved at its last
 //! stop, ends as one that was not. Nothing is allocated, no file is opened and nothing is kept inside: all that is worked on is lent, and what
-//! must be remembered between calls is the [`State`]. Some 52 KiB of stack are wanted, 8 of them by a [`call`].
+//! must be remembered between calls is the [`State`]. Some 52 KiB of stack are wanted, 13 of them by a [`call`].
 //!
 //! ```
 //! use muongrabi::{Areas, Outcome, Updater, BLOCK};

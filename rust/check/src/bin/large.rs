@@ -57,8 +57,8 @@ fn real(other: &dyn Implementation, seed: u64, commands: usize) -> Result<(), St
     let mut blocks = Blocks::new();
     // A run stops some twice a line, and after every stretch of a `free`; each call then goes through the list up to its line to count it. A block
     // freed before 32,767 younger ones would be as many calls over megabytes of list, minutes for one line, so no `free` has more than 40
-    // stretches here, and the list is not quite as long as one may be: the whole stays within a minute of processor time.
-    let (bytes, stretches) = (3_400_000, 40);
+    // stretches here, and the list is not as long as one may be: the whole stays within a minute of processor time.
+    let (bytes, stretches) = (2_800_000, 40);
     let sizes = Sizes { image: 65_536, area: MOST_AREA, commands, most: 8_192, bytes, patch: 48 << 20, often: 30, stashes: 0, stretches, frees: 0 };
     let mut world = World::good(&mut rng, &mut blocks, &sizes);
     (world.stash, world.work, world.result) = (MOST_AREA, MOST_AREA, MOST_RESULT);

@@ -27,7 +27,7 @@ fn main() {
         }
     }
     let on: &dyn Implementation = if itself { &Plain } else { &Library };
-    let effort = if long { Effort { cuts: 12, every: (200, 6 * 4_096) } } else { Effort { cuts: 4, every: (500, 2 * 4_096) } };
+    let effort = if long { Effort { cuts: 12, every: (200, 6 * 4_096) } } else { Effort { cuts: 4, every: (250, 2 * 4_096) } };
     let cases = cases.unwrap_or(if long { 8_000 } else { 600 });
     println!("seed {seed}");
     let mut cuts = Cuts::new(on, effort);

@@ -2,11 +2,11 @@
 //!
 //! LIST is the transfer list, IMAGE the image that is updated in its place, NEW the new data, read in pieces, so it may be larger than
 //! memory, and PATCH the patch data, where the list has `bsdiff` lines. The stash, work and result areas are kept in files beside the image, as
-//! large as the list needs them, and the state in IMAGE.saved: after opening, at every stop, and where the new data ends too soon. Where that file
-//! is found, the run goes on from there, with the new data from the byte on that it names. When the list is finished these files are removed; a
-//! refusal leaves them, and a refused opening makes none. Prints `done T`, `more T` (T: bytes of new data taken in all) or `refused: ` and why;
-//! where a line is ill formed, then the line, and a mark under the first byte that is wrong. Exit status: 0 done, 1 more or refused, 2 for a file
-//! that cannot be read or written.
+//! large as the list needs them, and the state in IMAGE.saved: after opening and at every stop. Where that file is found, the run goes on from
+//! there, with the new data from the byte on that it names. When the list is finished these files are removed; a refusal leaves them, and a
+//! refused opening makes none. Prints `done T`, `more T` (T: bytes of new data taken in all) or `refused: ` and why; where a line is ill formed,
+//! then the line, and a mark under the first byte that is wrong. Exit status: 0 done, 1 more or refused, 2 for a file that cannot be read or
+//! written.
 
 use muongrabi::{open, Areas, Called, Lengths, Outcome, Refusal, State, Updater, BLOCK, MOST_AREA, MOST_RESULT};
 use std::fs::{self, File, OpenOptions};
@@ -142,8 +142,11 @@ fn apply(text: &[u8], image: &str, new: &str, patch: Option<&str>) -> Result<Res
         loop {
             let Called { outcome, taken } = updater.call(&piece[used..got]);
             used += taken;
-            if let Outcome::Done | Outcome::Refused(_) = outcome {
-                break 'run outcome;
+            match outcome {
+                Outcome::Done | Outcome::Refused(_) => break 'run outcome,
+                Outcome::More if got == 0 => break 'run outcome,
+                Outcome::More => break,
+                Outcome::Stop => {}
             }
             // Storage gets the bytes before the state that speaks of them, and the state before the next call writes.
             image_file.put(updater.image())?;
@@ -151,11 +154,6 @@ fn apply(text: &[u8], image: &str, new: &str, patch: Option<&str>) -> Result<Res
             work_file.put(updater.work())?;
             result_file.put(updater.result())?;
             save(&saved, updater.state())?;
-            match outcome {
-                Outcome::More if got == 0 => break 'run outcome,
-                Outcome::More => break,
-                _ => {}
-            }
         }
     };
     image_file.put(updater.image())?;

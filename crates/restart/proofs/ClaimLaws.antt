@@ -37,6 +37,7 @@ use Rattle.restart.specs.Writes.{Spot, AreasOutside, Agree, spots}
 use Rattle.updater.specs.declared.Outcome.the-variants as outcome
 use Rattle.updater.proofs.FitLaws.{fits-sound}
 use Rattle.restart.proofs.OutsideLaws.{areas-wider}
+use Rattle.restart.proofs.StopLaws.{stops-there}
 use Rattle.restart.proofs.RestartLaws.{reads, restarts, covers}
 use Rattle.sequence.specs.Sequence.{CallsMade, noCalls, allCalls, lastSays}
 use Rattle.sequence.specs.Claim.{openedConfig, Accepted, NoStop}
@@ -323,6 +324,9 @@ module _ (s : List ℕ) (a : Areas) (e : Accepted s a) (bytes : List ℕ) where
 pub restart-claim : RestartClaim
 restart-claim =
     record {
+      stops-there = stops-there;
+      stops = λ s a z q qs later j f. saved z q qs later j (inl f);
+      cuts = λ s a z b o. cut z (record { state = refl; areas = o });
       restarts = λ s a e {bytes} z. restarted s a e bytes z;
       ends = λ s a e {bytes} {xs} {p} z. all-ends s (lengthsAt s a) (header s a e) p (stood s a e bytes z .callable);
       onward = λ s a e {bytes} z small. onward s a e bytes small z .left;

@@ -5,5 +5,6 @@ pub mod ReadLaws
 pub mod FillLaws
 pub mod FreeLaws
 pub mod StepReadLaws
+pub mod StopLaws
 pub mod RestartLaws
 pub mod ClaimLaws

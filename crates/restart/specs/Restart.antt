@@ -7,12 +7,17 @@ use mathlib.Core.Logic.{_⊎_}
 use mathlib.Core.List.{List, [], _∷_, _++_}
 use Prim.Native.Nat.{ℕ, _+_, _*_, _<_, _^_}
 use lib.ListN.{length, drop, replicate}
+use Rattle.text.specs.Choice.{either}
 use Rattle.ranges.specs.Ranges.{leastBlocks}
 use Rattle.machine.specs.Pieces.{joined}
 use Rattle.machine.specs.Writes.{writesToStop}
-use Rattle.possible.specs.Possible.{termsFor}
+use Rattle.state.specs.Stashes.{Stash}
+use Rattle.command.specs.Filling.{fills}
+use Rattle.command.specs.declared.Command.{Command}
+use Rattle.possible.specs.Possible.{freesOn, termsFor}
 use Rattle.updater.specs.Areas.{Areas}
-use Rattle.updater.specs.Steps.{Config}
+use Rattle.updater.specs.Steps.{Config, configOf, stopsAfter, stepOf}
+use Rattle.updater.specs.declared.commands.StepEnd.the-variants.{Refused}
 use Rattle.updater.specs.Run.{lineSteps, haltsAt, machine}
 use Rattle.updater.specs.Calls.{lengthsAt, leaves}
 use Rattle.restart.specs.Writes.{Spot, AreasOutside, Agree, spots}
@@ -45,8 +50,24 @@ pub record EndsAlike (s : List ℕ) (a : Areas) (p : Config) (q r : List ℕ) (q
   pub config : allCalls leastBlocks s (q ∷ qs) (noCalls p) .config ≡ allCalls leastBlocks s (r ∷ rs) (noCalls (openedConfig s a)) .config
   pub outcome : lastSays leastBlocks s q qs (noCalls p) ≡ lastSays leastBlocks s r rs (noCalls (openedConfig s a))
 
+-- where a run stops: after a step of a `move`, `stash` or `bsdiff` that is not refused, passed over or not, and after each stretch of a `free`; after
+-- no other step
+abbrev pub StopsThere : Type 0
+StopsThere =
+    (l : List ℕ) (held : List Stash) (hash : List ℕ) (c : Command) (ready k : ℕ) (a : Areas) →
+    ((number : ℕ) → stepOf l held hash c ready k a .end ≡ Refused number → ⊥) →
+    stopsAfter (stepOf l held hash c ready k a .end) ≡ either (fills c) (freesOn held k hash c)
+
 -- THE CLAIM, with cuts
 pub record RestartClaim : Type 0 where
+  pub stops-there : StopsThere
+  -- what may stand: every stop that calls come to, saved, and after it whatever the bytes hold that the run writes from there on
+  pub stops : (s : List ℕ) (a : Areas) {bytes xs : List ℕ} {p : Config} → Standing s a bytes xs p →
+      (q : List ℕ) (qs : List (List ℕ)) (later : List ℕ) → joined (q ∷ qs) ++ later ≡ xs →
+      lastSays leastBlocks s q qs (noCalls p) ≡ outcome.Stop →
+      Standing s a bytes (allCalls leastBlocks s (q ∷ qs) (noCalls p) .rest ++ later) (allCalls leastBlocks s (q ∷ qs) (noCalls p) .config)
+  pub cuts : (s : List ℕ) (a : Areas) {bytes xs : List ℕ} {p : Config} → Standing s a bytes xs p →
+      (b : Areas) → AreasOutside (writes s xs p) (p .areas) b → Standing s a bytes xs (configOf b (p .state))
   -- the saved state, with the new data that is left, ends as an uncut run does
   pub restarts : (s : List ℕ) (a : Areas) → Accepted s a → {bytes xs : List ℕ} {p : Config} → Standing s a bytes xs p →
       (q : List ℕ) (qs : List (List ℕ)) → joined (q ∷ qs) ≡ xs → NoStop (lastSays leastBlocks s q qs (noCalls p)) →

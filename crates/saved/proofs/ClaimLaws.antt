@@ -291,6 +291,8 @@ no-form b e s f =
 pub claim : SavedClaim
 claim =
     record {
+      typed = λ s a b c d e f g.
+          record { hashes-length = a; sizes-length = b; hashes = c; sizes = d; progress = e; refusal = f; lengths = g };
       one-length = length-saved;
       read-back = read-back;
       own-form = own-form;

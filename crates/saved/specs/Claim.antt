@@ -6,10 +6,11 @@ use mathlib.Core.List.{List}
 use mathlib.Core.Logic.{_⊎_}
 use lib.ListN.{length}
 use Rattle.text.specs.Below.{AllBelow}
+use Rattle.state.specs.Limits.{mostStashes, tableBytes}
 use Rattle.state.specs.Refusals.{none, noSavedForm}
 use Rattle.state.specs.declared.State.{State}
-use Rattle.saved.specs.Layout.{savedBytes}
-use Rattle.saved.specs.Saved.{savedOf, Typed}
+use Rattle.saved.specs.Layout.{wordBound, savedBytes}
+use Rattle.saved.specs.Saved.{progressNumbers, refusalNumbers, lengthNumbers, savedOf, Typed}
 use Rattle.saved.specs.Restored.{answered, noState, restoredOf}
 
 -- the bytes are the saved form of this state, and the state is one that its type can hold
@@ -18,6 +19,10 @@ pub record FormOf (b : List ℕ) (s : State) : Type 0 where
   pub form : savedOf s ≡ b
 
 pub record SavedClaim : Type 0 where
+  -- no state is left out: tables of their lengths, bytes below 256 and numbers below 2^64 are all that is asked
+  pub typed : (s : State) → length (s .hashes) ≡ tableBytes → length (s .sizes) ≡ mostStashes → AllBelow 256 (s .hashes) →
+      AllBelow wordBound (s .sizes) → AllBelow wordBound (progressNumbers s) → AllBelow wordBound (refusalNumbers (s .refusal)) →
+      AllBelow wordBound (lengthNumbers (s .lengths)) → Typed s
   -- every state's saved form has the one length, and is read back as that state
   pub one-length : (s : State) → Typed s → length (savedOf s) ≡ savedBytes
   pub read-back : (s : State) → Typed s → restoredOf (savedOf s) ≡ answered s

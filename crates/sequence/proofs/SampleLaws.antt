@@ -184,6 +184,7 @@ module _ (A B C D E F G H T1 T2 T3 W1 W2 W3 : Block) where
           record { area = moved-row (C ∷ D ∷ C ∷ D ∷ E ∷ F ∷ G ∷ []) 2 4 2; ends = refl },
           record { area = moved-row (C ∷ D ∷ E ∷ F ∷ E ∷ F ∷ G ∷ []) 4 6 1; ends = refl },
         );
+        stretch-ends = λ x y z. (refl, refl, refl, refl, refl, refl);
       }
 
 pub samples : Samples

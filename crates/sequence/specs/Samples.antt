@@ -31,7 +31,7 @@ use Rattle.updater.specs.Source.{stretched}
 use Rattle.updater.specs.Effect.{isFinished}
 use Rattle.updater.specs.Steps.{freeEnd}
 use Rattle.updater.specs.declared.commands.StepEnd.{StepEnd}
-use Rattle.updater.specs.declared.commands.StepEnd.the-variants.{Ended, Stretched}
+use Rattle.updater.specs.declared.commands.StepEnd.the-variants.{Passed, Ended, Stretched}
 use Rattle.sequence.specs.Model.{Model, doLine, lineEnds}
 
 -- the bytes of a text of plain characters
@@ -184,6 +184,15 @@ module _ (A B C D E F G H T1 T2 T3 W1 W2 W3 : Block) where
         Stretch stashes 0 (A ∷ B ∷ C ∷ D ∷ E ∷ F ∷ G ∷ []) (C ∷ D ∷ C ∷ D ∷ E ∷ F ∷ G ∷ []) Stretched
         × Stretch stashes 1 (C ∷ D ∷ C ∷ D ∷ E ∷ F ∷ G ∷ []) (C ∷ D ∷ E ∷ F ∷ E ∷ F ∷ G ∷ []) Stretched
         × Stretch stashes 2 (C ∷ D ∷ E ∷ F ∷ E ∷ F ∷ G ∷ []) (C ∷ D ∷ E ∷ F ∷ G ∷ F ∷ G ∷ []) Ended
+    -- .. how a `free` ends after each: of the youngest stash nothing moves and no stop follows; younger blocks that come out even take two stretches,
+    -- fewer than the gap one; and a stash that is not the oldest goes the same way.
+    pub stretch-ends : (x y z : Digest) →
+        (freeEnd (stashOf x 2 ∷ stashOf y 3 ∷ []) 1 0 ≡ Passed)
+        × (freeEnd (stashOf x 2 ∷ stashOf y 4 ∷ []) 0 0 ≡ Stretched)
+        × (freeEnd (stashOf x 2 ∷ stashOf y 4 ∷ []) 0 1 ≡ Ended)
+        × (freeEnd (stashOf x 3 ∷ stashOf y 1 ∷ []) 0 0 ≡ Ended)
+        × (freeEnd (stashOf x 5 ∷ stashOf y 1 ∷ stashOf z 2 ∷ []) 1 0 ≡ Stretched)
+        × (freeEnd (stashOf x 5 ∷ stashOf y 1 ∷ stashOf z 2 ∷ []) 1 1 ≡ Ended)
 
 -- THE TABLE, whatever the blocks hold
 abbrev pub Samples : Type 0

@@ -2,41 +2,51 @@
  * muongrabi: runs an Android transfer list of version 3 over a lent image while new data arrives in pieces, and loads an Android sparse file
  * into a lent image.
  *
- * For C99 and C++98, and later ones. Link with libmuongrabi.a: `pkg-config --cflags --libs muongrabi` after `./install PREFIX`, or
- * target/staticlib/libmuongrabi.a as it is built. The archive is for x86-64 Linux, and not yet for AArch64; it wants memcpy, memmove and
- * memset of the C library, at most 52 KiB of stack, a call 13 KiB, and nothing else. Nothing is allocated, no file is opened and no state is
- * kept inside: everything a function works on is lent by the caller, and what must be remembered between calls is the caller's state.
+ * For C99 and C++98, and later ones. Link with libmuongrabi.a: `pkg-config --cflags --libs muongrabi` after `./install PREFIX`, or the archive as it
+ * is built. `./build library` makes the one for x86-64 Linux, target/staticlib/libmuongrabi.a: for this machine the Rattle toolchain stands behind the
+ * code that it compiles. `./build aarch64` makes the one for AArch64 Linux and Android, target/staticlib/aarch64/libmuongrabi.a: the same proved module
+ * and the same exports, compiled for a machine that the toolchain does not promise; there the code is tested, by tests/arm64. An archive wants memcpy,
+ * memmove and memset of the C library, at most 52 KiB of stack, a call 20 KiB, and nothing else. Nothing is allocated, no file is opened and no state
+ * is kept inside: everything a function works on is lent by the caller, and what must be remembered between calls is the caller's state.
  *
- *     muongrabi_state state = muongrabi_open(list, list_length, image_length, stash_length, work_length, result_length, patch_length);
+ *     muongrabi_state state;
+ *     muongrabi_refusal refusal = muongrabi_open(list, list_length, image_length, stash_length, work_length, result_length, patch_length, &state);
+ *     if (refusal.number != 0) say muongrabi_refusal_text(refusal.number), and stop;
  *     while (there is new data, or once with none) {
  *         muongrabi_answer answer;
  *         do {
  *             answer = muongrabi_call(list, list_length, image, image_length, stash, stash_length, work, work_length,
  *                                     result, result_length, patch, patch_length, piece, piece_length, &state);
  *             piece += answer.taken, piece_length -= answer.taken;
- *             if (answer.outcome == MUONGRABI_STOP) sync image and areas, then save the state, if the update is to survive a power cut;
+ *             if (answer.outcome == MUONGRABI_STOP) sync image and areas, then store state.bytes, if the update is to survive a power cut;
  *         } while (answer.outcome == MUONGRABI_STOP);
  *         if (answer.outcome != MUONGRABI_MORE) break;
  *     }
  *
- * To finish after a power cut: keep image and areas in storage, and the bytes of muongrabi_save beside them, replaced whole or not at all, after opening and
- * at every stop; storage has image and areas before the saved form that speaks of them, and the saved form before the next call. Then go on with
- * muongrabi_restore and the new data from byte state.total on. docs/POWER-CUTS.md has it on one page.
+ * To finish after a power cut: keep image and areas in storage, and state.bytes beside them, replaced whole or not at all, after opening and at every
+ * stop; storage has image and areas before the state that speaks of them, and the state before the next call. To go on, read the stored bytes:
+ *
+ *     muongrabi_fields fields;
+ *     if (muongrabi_restore(bytes, bytes_length, &fields) != 0) these are not the bytes of a state (20): say so, and stop;
+ *     memcpy(state.bytes, bytes, sizeof state.bytes);
+ *     call as above, with the new data from byte fields.total on;
+ *
+ * docs/POWER-CUTS.md has it on one page.
  *
  * A list without `bsdiff` needs no result area and no patch data: lend null and 0.
  *
  * A first image that comes as a sparse file: muongrabi_sparse_load(file, file_length, image, image_length), which gives 0 or a refusal number.
  *
  * For all functions: a pointer with length n names n readable bytes, writable ones for image, stash, work and result; cuts names n readable
- * numbers; state names a state and out as many writable bytes as are written there, and these two are not null. A null pointer elsewhere names no bytes and no numbers,
- * whatever n is given with it. What is written (image, stash, work, result, state, out) overlaps nothing else that the same call is lent. Every
- * value of every byte, number and state field is allowed and gets an answer.
+ * numbers; state names a state, fields the fields of one, and out as many writable bytes as are written there, and these three are not null. A null
+ * pointer elsewhere names no bytes and no numbers, whatever n is given with it. What is written (image, stash, work, result, state, fields, out)
+ * overlaps nothing else that the same call is lent. Every value of every byte and number is allowed and gets an answer.
  */
 #ifndef MUONGRABI_H
 #define MUONGRABI_H
 
-#if !defined(__x86_64__) || !defined(__linux__)
-#error "muongrabi: the archive is for x86-64 Linux, and structs cross to it as they do there"
+#if !defined(__linux__) || !defined(__LP64__) || !(defined(__x86_64__) || (defined(__aarch64__) && defined(__AARCH64EL__)))
+#error "muongrabi: the archives are for x86-64 and AArch64 Linux, 64-bit and little-endian"
 #endif
 
 #include <stddef.h>
@@ -46,8 +56,8 @@
 extern "C" {
 #endif
 
-#define MUONGRABI_VERSION "0.9.0"
-#define MUONGRABI_ABI 5   /* another number whenever what the archive exports changes: the layout of a struct or the parameters of a function */
+#define MUONGRABI_VERSION "0.10.0"
+#define MUONGRABI_ABI 6   /* another number whenever what an archive exports changes: the parameters of a function, or what an array among them holds */
 
 /* Limits, 64 bits wide, so that blocks times bytes do not wrap. */
 #define MUONGRABI_BLOCK 4096ul          /* bytes of a block */
@@ -63,7 +73,7 @@ extern "C" {
 #define MUONGRABI_REFUSED 2u   /* see the answer's number, line and byte */
 #define MUONGRABI_STOP 3u      /* stopped for saving: call on with the bytes of the piece that were not taken, and more behind them if there are */
 
-#define MUONGRABI_SAVED 7306ul /* bytes of a saved form (docs/SAVED-FORM.md) */
+#define MUONGRABI_SAVED 7306ul /* bytes of a state: its saved form (docs/SAVED-FORM.md) */
 
 /*
  * Refusal numbers. The line given with one is that line of the list, counted from 1, where nothing else is said.
@@ -74,9 +84,9 @@ extern "C" {
  * header line is absent, it is the list's length. Good here is every line that none of 3, 6 and 7 would be given for. With all other numbers the
  * byte is 0, which with 3 is the list's first.
  *
- * An opening gives 1 to 15 and 18, and looks at no block and at no patch. A call gives 6 to 14 and 16 to 19, and repeats the refusal that
+ * An opening gives 1 to 15 and 18, and looks at no block and at no patch. A call gives 6 to 14 and 16 to 20, and repeats the refusal that
  * its state holds. On the list that was opened, with the state as each call left it and areas and patch data of the same lengths, it gives 16
- * and 19 only. Reading a saved form gives 20. Loading a sparse file gives 30 to 36. These have no line, and nothing else gives them.
+ * and 19 only. Restoring a state gives 20. Loading a sparse file gives 30 to 36, which nothing else gives. 20 and 30 to 36 have no line.
  */
 enum muongrabi_refusal_number {
     MUONGRABI_REFUSAL_AREA_SIZE = 1,         /* image, stash, work or result area not whole blocks, or over its limit; line 0 */
@@ -98,7 +108,7 @@ enum muongrabi_refusal_number {
     MUONGRABI_REFUSAL_STATE_IMPOSSIBLE = 17, /* in a call: state impossible, or the length of list, image, area or patch data changed; line 0 */
     MUONGRABI_REFUSAL_PAST_PATCH = 18,       /* bsdiff's offset and length pass the end of the patch data */
     MUONGRABI_REFUSAL_PATCH_MALFORMED = 19,  /* in a run: a patch that is read is malformed, or its result is not as long as the target */
-    MUONGRABI_REFUSAL_NO_SAVED_FORM = 20,    /* bytes that are no state's saved form: muongrabi_restore alone gives it */
+    MUONGRABI_REFUSAL_NO_SAVED_FORM = 20,    /* bytes that are no state's saved form, in muongrabi_restore and muongrabi_call; line 0 */
 
     MUONGRABI_REFUSAL_SPARSE_HEADER = 30,     /* sparse file's header cut short, or its mark or major version another */
     MUONGRABI_REFUSAL_SPARSE_SIZES = 31,      /* its header sizes not 28 and 12, or its block size not 4096 */
@@ -110,8 +120,8 @@ enum muongrabi_refusal_number {
 };
 
 /*
- * A state is impossible when the areas and the list's header would now give 1 to 5; when `at` is past the list's end, before the first
- * command line or not at a line's start (the end after an LF is one), or `line` is not that line's number; when it holds over 256
+ * A state is impossible when the areas and the list's header would now give 1 to 5; when `at` of its muongrabi_fields is past the list's end, before the
+ * first command line or not at a line's start (the end after an LF is one), or `line` is not that line's number; when it holds over 256
  * stashes, one hash twice, a stash of no blocks, or more blocks than line 4 or the stash area; when `into` is not 0 and the line is no good `new`
  * (6, 8) or has no more bytes than that; when `ready` is not 0 and the line is not a `move`, `stash` or `bsdiff` free of 6 to 14 and 18; or when
  * `stretches` is not 0 and the line is not a `free` of a stash that is held, with more stretches to move than that.
@@ -175,10 +185,18 @@ typedef struct muongrabi_lengths {
 } muongrabi_lengths;
 
 /*
- * Where a run stands. It is plain data: copy it, keep it, compare it. The stashes lie back to back from the front of the stash area,
- * oldest first; stash k (k < count) has its hash in hashes[20 * k .. 20 * k + 20] and its blocks in sizes[k].
+ * Where a run stands, as the bytes of its saved form (docs/SAVED-FORM.md), the same on every machine: copy them, compare them, store them as they
+ * are. A call reads them and changes them in place; muongrabi_restore says what is in them.
  */
 typedef struct muongrabi_state {
+    uint8_t bytes[MUONGRABI_SAVED];
+} muongrabi_state;
+
+/*
+ * What is in a state. The stashes lie back to back from the front of the stash area, oldest first; stash k (k < count) has its hash in
+ * hashes[20 * k .. 20 * k + 20] and its blocks in sizes[k].
+ */
+typedef struct muongrabi_fields {
     uint8_t hashes[20 * MUONGRABI_MOST_STASHES];
     size_t sizes[MUONGRABI_MOST_STASHES];
     size_t count;                /* stashes held */
@@ -190,7 +208,7 @@ typedef struct muongrabi_state {
     size_t stretches;            /* stretches of the younger stashes that a `free` has moved down */
     muongrabi_refusal refusal;   /* what every later call repeats as it is, if its number is not 0 */
     muongrabi_lengths lengths;
-} muongrabi_state;
+} muongrabi_fields;
 
 /* What a call answers. */
 typedef struct muongrabi_answer {
@@ -201,119 +219,65 @@ typedef struct muongrabi_answer {
     size_t taken;     /* bytes of the piece that were used */
 } muongrabi_answer;
 
-/* What reading a saved form answers. */
-typedef struct muongrabi_restored {
-    size_t number;           /* 0, or 20 */
-    muongrabi_state state;   /* the state that was saved; with 20 all is 0 */
-} muongrabi_restored;
+/* What the proved code counts in is 64 bits wide, and a state is its bytes and nothing else. */
+#if defined(__cplusplus) && __cplusplus >= 201103L
+#define MUONGRABI_HOLDS(name, holds) static_assert(holds, #name)
+#elif !defined(__cplusplus) && __STDC_VERSION__ >= 201112L
+#define MUONGRABI_HOLDS(name, holds) _Static_assert(holds, #name)
+#else
+#define MUONGRABI_HOLDS(name, holds) typedef char muongrabi_holds_##name[(holds) ? 1 : -1]
+#endif
+MUONGRABI_HOLDS(number, sizeof(size_t) == 8);
+MUONGRABI_HOLDS(state, sizeof(muongrabi_state) == MUONGRABI_SAVED);
+#undef MUONGRABI_HOLDS
 
 /*
- * What the archive exports. Call it by the functions below, which have the same names: the exports want pointers that are not null even
- * where they read nothing through them, and take a state in parts, its two tables where they lie and the rest by value.
+ * What an archive exports: numbers, pointers with lengths, and pointers to arrays of these lengths alone, so that one declaration is right on every
+ * machine. Call it by the functions below, which have the same names: the exports want pointers that are not null even where they read nothing
+ * through them, and answer in arrays.
  */
 
-/* What a state has behind its tables, in the same order. */
-typedef struct muongrabi_progress {
-    size_t count;
-    size_t line;
-    size_t at;
-    size_t into;
-    size_t total;
-    size_t ready;
-    size_t stretches;
-    muongrabi_refusal refusal;
-    muongrabi_lengths lengths;
-} muongrabi_progress;
-
-typedef struct muongrabi_export_answer {
-    muongrabi_progress progress;
-    size_t outcome;
-    size_t number;
-    size_t line;
-    size_t byte;
-    size_t taken;
-} muongrabi_export_answer;
-
-/* The layout that the archive was compiled with. It changes together with MUONGRABI_ABI. */
-#if defined(__cplusplus) && __cplusplus >= 201103L
-#define MUONGRABI_LAYOUT(name, holds) static_assert(holds, #name)
-#elif !defined(__cplusplus) && __STDC_VERSION__ >= 201112L
-#define MUONGRABI_LAYOUT(name, holds) _Static_assert(holds, #name)
-#else
-#define MUONGRABI_LAYOUT(name, holds) typedef char muongrabi_layout_of_##name[(holds) ? 1 : -1]
-#endif
-MUONGRABI_LAYOUT(number, sizeof(size_t) == 8);
-MUONGRABI_LAYOUT(refusal_line, offsetof(muongrabi_refusal, line) == 8);
-MUONGRABI_LAYOUT(refusal_byte, offsetof(muongrabi_refusal, byte) == 16);
-MUONGRABI_LAYOUT(refusal, sizeof(muongrabi_refusal) == 24);
-MUONGRABI_LAYOUT(lengths, sizeof(muongrabi_lengths) == 48);
-MUONGRABI_LAYOUT(state_sizes, offsetof(muongrabi_state, sizes) == 5120);
-MUONGRABI_LAYOUT(state_count, offsetof(muongrabi_state, count) == 7168);
-MUONGRABI_LAYOUT(state_line, offsetof(muongrabi_state, line) == 7176);
-MUONGRABI_LAYOUT(state_at, offsetof(muongrabi_state, at) == 7184);
-MUONGRABI_LAYOUT(state_into, offsetof(muongrabi_state, into) == 7192);
-MUONGRABI_LAYOUT(state_total, offsetof(muongrabi_state, total) == 7200);
-MUONGRABI_LAYOUT(state_ready, offsetof(muongrabi_state, ready) == 7208);
-MUONGRABI_LAYOUT(state_stretches, offsetof(muongrabi_state, stretches) == 7216);
-MUONGRABI_LAYOUT(state_refusal, offsetof(muongrabi_state, refusal) == 7224);
-MUONGRABI_LAYOUT(state_lengths, offsetof(muongrabi_state, lengths) == 7248);
-MUONGRABI_LAYOUT(state, sizeof(muongrabi_state) == 7296);
-MUONGRABI_LAYOUT(restored_state, offsetof(muongrabi_restored, state) == 8);
-MUONGRABI_LAYOUT(restored, sizeof(muongrabi_restored) == 7304);
-MUONGRABI_LAYOUT(progress_line, offsetof(muongrabi_progress, line) == 8);
-MUONGRABI_LAYOUT(progress_at, offsetof(muongrabi_progress, at) == 16);
-MUONGRABI_LAYOUT(progress_into, offsetof(muongrabi_progress, into) == 24);
-MUONGRABI_LAYOUT(progress_total, offsetof(muongrabi_progress, total) == 32);
-MUONGRABI_LAYOUT(progress_ready, offsetof(muongrabi_progress, ready) == 40);
-MUONGRABI_LAYOUT(progress_stretches, offsetof(muongrabi_progress, stretches) == 48);
-MUONGRABI_LAYOUT(progress_refusal, offsetof(muongrabi_progress, refusal) == 56);
-MUONGRABI_LAYOUT(progress_lengths, offsetof(muongrabi_progress, lengths) == 80);
-MUONGRABI_LAYOUT(progress, sizeof(muongrabi_progress) == 128);
-MUONGRABI_LAYOUT(answer_outcome, offsetof(muongrabi_export_answer, outcome) == 128);
-MUONGRABI_LAYOUT(answer_number, offsetof(muongrabi_export_answer, number) == 136);
-MUONGRABI_LAYOUT(answer_line, offsetof(muongrabi_export_answer, line) == 144);
-MUONGRABI_LAYOUT(answer_byte, offsetof(muongrabi_export_answer, byte) == 152);
-MUONGRABI_LAYOUT(answer_taken, offsetof(muongrabi_export_answer, taken) == 160);
-MUONGRABI_LAYOUT(answer, sizeof(muongrabi_export_answer) == 168);
-#undef MUONGRABI_LAYOUT
-
 /* MUONGRABI_ABI as the archive has it. The name has the number too: what was compiled with a header of another ABI does not link. */
-size_t muongrabi_abi_5(void);
+size_t muongrabi_abi_6(void);
 
 void muongrabi_digest(const uint8_t *bytes, size_t bytes_length, uint8_t out[20]);
 
-muongrabi_state muongrabi_open(const uint8_t *list, size_t list_length, size_t image_length, size_t stash_length, size_t work_length,
-                               size_t result_length, size_t patch_length);
+/* The answer is the refusal's number, line and byte. The state is only written. */
+void muongrabi_open(const uint8_t *list, size_t list_length, size_t image_length, size_t stash_length, size_t work_length,
+                    size_t result_length, size_t patch_length, uint8_t state[MUONGRABI_SAVED], uint64_t answer[3]);
 
-muongrabi_export_answer muongrabi_call(const uint8_t *list, size_t list_length,
-                                       uint8_t *image, size_t image_length,
-                                       uint8_t *stash, size_t stash_length,
-                                       uint8_t *work, size_t work_length,
-                                       uint8_t *result, size_t result_length,
-                                       const uint8_t *patch, size_t patch_length,
-                                       const uint8_t *piece, size_t piece_length,
-                                       uint8_t hashes[20 * MUONGRABI_MOST_STASHES], size_t sizes[MUONGRABI_MOST_STASHES],
-                                       muongrabi_progress progress);
+/* The answer is outcome, number, line, byte and taken. */
+void muongrabi_call(const uint8_t *list, size_t list_length,
+                    uint8_t *image, size_t image_length,
+                    uint8_t *stash, size_t stash_length,
+                    uint8_t *work, size_t work_length,
+                    uint8_t *result, size_t result_length,
+                    const uint8_t *patch, size_t patch_length,
+                    const uint8_t *piece, size_t piece_length,
+                    uint8_t state[MUONGRABI_SAVED], uint64_t answer[5]);
 
-/* The tables are only written. */
-muongrabi_export_answer muongrabi_run(const uint8_t *list, size_t list_length,
-                                      uint8_t *image, size_t image_length,
-                                      uint8_t *stash, size_t stash_length,
-                                      uint8_t *work, size_t work_length,
-                                      uint8_t *result, size_t result_length,
-                                      const uint8_t *patch, size_t patch_length,
-                                      const uint8_t *data, size_t data_length,
-                                      const size_t *cuts, size_t cuts_length,
-                                      uint8_t hashes[20 * MUONGRABI_MOST_STASHES], size_t sizes[MUONGRABI_MOST_STASHES]);
+/* The same answer. The state is only written. */
+void muongrabi_run(const uint8_t *list, size_t list_length,
+                   uint8_t *image, size_t image_length,
+                   uint8_t *stash, size_t stash_length,
+                   uint8_t *work, size_t work_length,
+                   uint8_t *result, size_t result_length,
+                   const uint8_t *patch, size_t patch_length,
+                   const uint8_t *data, size_t data_length,
+                   const size_t *cuts, size_t cuts_length,
+                   uint8_t state[MUONGRABI_SAVED], uint64_t answer[5]);
 
-void muongrabi_save(const uint8_t hashes[20 * MUONGRABI_MOST_STASHES], const size_t sizes[MUONGRABI_MOST_STASHES],
-                    muongrabi_progress progress, uint8_t out[MUONGRABI_SAVED]);
+/* The numbers are a state's fields behind its tables, in their order; those of refusal and lengths are three and six of them. */
+void muongrabi_save(const uint8_t hashes[20 * MUONGRABI_MOST_STASHES], const size_t sizes[MUONGRABI_MOST_STASHES], const size_t numbers[16],
+                    uint8_t out[MUONGRABI_SAVED]);
 
-muongrabi_restored muongrabi_restore(const uint8_t *bytes, size_t bytes_length);
+/* With 20 the arrays are as they came. */
+size_t muongrabi_restore(const uint8_t *bytes, size_t bytes_length, uint8_t hashes[20 * MUONGRABI_MOST_STASHES],
+                         size_t sizes[MUONGRABI_MOST_STASHES], size_t numbers[16]);
 
 uint32_t muongrabi_sparse_load(const uint8_t *file, size_t file_length, uint8_t *image, size_t image_length);
 
-/* What lies between: no bytes for null, and a state taken apart and put together. */
+/* What lies between: no bytes for null, and answers as structs. */
 
 static inline const uint8_t *muongrabi_lent_bytes(const uint8_t *bytes)
 {
@@ -338,46 +302,21 @@ static inline size_t muongrabi_lent_length(const void *lent, size_t length)
     return lent ? length : 0;
 }
 
-static inline muongrabi_progress muongrabi_progress_of(const muongrabi_state *state)
-{
-    muongrabi_progress progress;
-    progress.count = state->count;
-    progress.line = state->line;
-    progress.at = state->at;
-    progress.into = state->into;
-    progress.total = state->total;
-    progress.ready = state->ready;
-    progress.stretches = state->stretches;
-    progress.refusal = state->refusal;
-    progress.lengths = state->lengths;
-    return progress;
-}
-
-/* The tables are in their place already. */
-static inline muongrabi_answer muongrabi_answered(const muongrabi_export_answer *from, muongrabi_state *state)
+static inline muongrabi_answer muongrabi_answered(const uint64_t numbers[5])
 {
     muongrabi_answer answer;
-    state->count = from->progress.count;
-    state->line = from->progress.line;
-    state->at = from->progress.at;
-    state->into = from->progress.into;
-    state->total = from->progress.total;
-    state->ready = from->progress.ready;
-    state->stretches = from->progress.stretches;
-    state->refusal = from->progress.refusal;
-    state->lengths = from->progress.lengths;
-    answer.outcome = from->outcome;
-    answer.number = from->number;
-    answer.line = from->line;
-    answer.byte = from->byte;
-    answer.taken = from->taken;
+    answer.outcome = numbers[0];
+    answer.number = numbers[1];
+    answer.line = numbers[2];
+    answer.byte = numbers[3];
+    answer.taken = numbers[4];
     return answer;
 }
 
 /*
  * The functions to call. Each is called by its name without `_lent`, which stands for it from the end of this header on: muongrabi_digest,
  * muongrabi_open, muongrabi_call, muongrabi_run, muongrabi_save, muongrabi_restore and muongrabi_sparse_load. All but the digest's name
- * muongrabi_abi_5 too.
+ * muongrabi_abi_6 too.
  */
 
 /* Writes the SHA-1 digest of the bytes to out. */
@@ -387,26 +326,34 @@ static inline void muongrabi_digest_lent(const uint8_t *bytes, size_t bytes_leng
 }
 
 /*
- * Checks the whole list for areas and patch data of these lengths in bytes. Nothing but the list is read, and nothing is written. In the
- * state given back, refusal.number is 0 when the list is accepted; otherwise it holds the refusal and all else is 0.
+ * Checks the whole list for areas and patch data of these lengths in bytes. Nothing but the list is read, and nothing but the state is written, which
+ * must not be null; what it held is not looked at. Number 0: the list is accepted, and the state stands at its first command. Otherwise the state
+ * holds the refusal that is given, and all its other fields are 0.
  */
-static inline muongrabi_state muongrabi_open_lent(const uint8_t *list, size_t list_length,
-                                                  size_t image_length, size_t stash_length, size_t work_length,
-                                                  size_t result_length, size_t patch_length)
+static inline muongrabi_refusal muongrabi_open_lent(const uint8_t *list, size_t list_length,
+                                                    size_t image_length, size_t stash_length, size_t work_length,
+                                                    size_t result_length, size_t patch_length,
+                                                    muongrabi_state *state)
 {
-    (void)muongrabi_abi_5();
-    return muongrabi_open(muongrabi_lent_bytes(list), muongrabi_lent_length(list, list_length),
-                          image_length, stash_length, work_length, result_length, patch_length);
+    muongrabi_refusal refusal;
+    uint64_t answer[3];
+    (void)muongrabi_abi_6();
+    muongrabi_open(muongrabi_lent_bytes(list), muongrabi_lent_length(list, list_length),
+                   image_length, stash_length, work_length, result_length, patch_length, state->bytes, answer);
+    refusal.number = answer[0];
+    refusal.line = answer[1];
+    refusal.byte = answer[2];
+    return refusal;
 }
 
 /*
  * Runs the list from where the state stands until it needs a byte that the piece does not have, the list is finished, a line is refused, or
- * the run stops for saving. The state, which must not be null, is changed where it lies, and is then that of the next call. A refusal other than 17 is held in
- * it, and every later call repeats it. With 17 the state stays as it was, and nothing is taken or changed. A refused line changes nothing
- * itself, with two exceptions: where a hash differs (16) or a patch is malformed (19) the work area has the source, and where it is the hash of
- * a patch's result, the result area has the result. Nothing rests on what the opening found: state and lengths are looked at (17), and each
- * line is read and checked again (6 to 14, 18) before it runs, so that a line altered since then is refused where it stands. Line 2 is the
- * opening's alone (15).
+ * the run stops for saving. The state, which must not be null, is changed where it lies, and is then that of the next call. Where its bytes are no
+ * state's saved form, the answer is 20, whatever else is lent. A refusal other than 17 and 20 is held in the state, and every later call repeats it.
+ * With 17 and with 20 the state stays as it was, and nothing is taken or changed. A refused line changes nothing itself, with two exceptions: where a
+ * hash differs (16) or a patch is malformed (19) the work area has the source, and where it is the hash of a patch's result, the result area has the
+ * result. Nothing rests on what the opening found: state and lengths are looked at (20, 17), and each line is read and checked again (6 to 14, 18)
+ * before it runs, so that a line altered since then is refused where it stands. Line 2 is the opening's alone (15).
  *
  * A line that is finished is passed over. Of a `move` or `bsdiff` the target's blocks are hashed first, as they stand in the image and in the order
  * in which the line names them. Where that is the move's hash, or the hash of the bsdiff's result, no source and no patch is read, image, stash,
@@ -420,7 +367,7 @@ static inline muongrabi_state muongrabi_open_lent(const uint8_t *list, size_t li
  *
  * A list that is run again from its top over an image that it has updated passes over the lines that are finished. In general that is still not
  * safe: a later line may have changed a block that an earlier one needs, and what a `stash` names may be gone. After a dropped connection
- * go on from the state of the last call, and after a power cut from the state that was saved at the last stop.
+ * go on from the state of the last call, and after a power cut from the state that was stored at the last stop.
  *
  * A `bsdiff` that is not finished puts its source together in the work area, and what the patch makes of it in the result area; only where both
  * have their hashes is the result written to the image. A patch is bsdiff's control triples and bytes unpacked, not a file that bsdiff wrote:
@@ -436,25 +383,24 @@ static inline muongrabi_answer muongrabi_call_lent(const uint8_t *list, size_t l
                                                    const uint8_t *piece, size_t piece_length,
                                                    muongrabi_state *state)
 {
-    muongrabi_export_answer answer;
-    (void)muongrabi_abi_5();
-    answer = muongrabi_call(muongrabi_lent_bytes(list), muongrabi_lent_length(list, list_length),
-                            muongrabi_lent_area(image), muongrabi_lent_length(image, image_length),
-                            muongrabi_lent_area(stash), muongrabi_lent_length(stash, stash_length),
-                            muongrabi_lent_area(work), muongrabi_lent_length(work, work_length),
-                            muongrabi_lent_area(result), muongrabi_lent_length(result, result_length),
-                            muongrabi_lent_bytes(patch), muongrabi_lent_length(patch, patch_length),
-                            muongrabi_lent_bytes(piece), muongrabi_lent_length(piece, piece_length),
-                            state->hashes, state->sizes, muongrabi_progress_of(state));
-    return muongrabi_answered(&answer, state);
+    uint64_t answer[5];
+    (void)muongrabi_abi_6();
+    muongrabi_call(muongrabi_lent_bytes(list), muongrabi_lent_length(list, list_length),
+                   muongrabi_lent_area(image), muongrabi_lent_length(image, image_length),
+                   muongrabi_lent_area(stash), muongrabi_lent_length(stash, stash_length),
+                   muongrabi_lent_area(work), muongrabi_lent_length(work, work_length),
+                   muongrabi_lent_area(result), muongrabi_lent_length(result, result_length),
+                   muongrabi_lent_bytes(patch), muongrabi_lent_length(patch, patch_length),
+                   muongrabi_lent_bytes(piece), muongrabi_lent_length(piece, piece_length),
+                   state->bytes, answer);
+    return muongrabi_answered(answer);
 }
 
 /*
  * Opens the list, then calls with pieces of data, whose lengths are the cuts_length numbers of cuts, cut short where data ends, and
  * once more with all that is left; after a stop it calls on, so that MUONGRABI_STOP is not answered. The answer is the last call's, its taken the sum
- * over all calls. The state after that call is put into
- * *state, which must not be null; what it held is not looked at. A refused opening is answered with MUONGRABI_REFUSED, its number, line and
- * byte, and taken 0; nothing but *state is changed then, which is the opening's.
+ * over all calls. The state after that call is put into *state, which must not be null; what it held is not looked at. A refused opening is answered
+ * with MUONGRABI_REFUSED, its number, line and byte, and taken 0; nothing but *state is changed then, which is the opening's.
  */
 static inline muongrabi_answer muongrabi_run_lent(const uint8_t *list, size_t list_length,
                                                   uint8_t *image, size_t image_length,
@@ -466,38 +412,74 @@ static inline muongrabi_answer muongrabi_run_lent(const uint8_t *list, size_t li
                                                   const size_t *cuts, size_t cuts_length,
                                                   muongrabi_state *state)
 {
-    muongrabi_export_answer answer;
-    (void)muongrabi_abi_5();
-    answer = muongrabi_run(muongrabi_lent_bytes(list), muongrabi_lent_length(list, list_length),
-                           muongrabi_lent_area(image), muongrabi_lent_length(image, image_length),
-                           muongrabi_lent_area(stash), muongrabi_lent_length(stash, stash_length),
-                           muongrabi_lent_area(work), muongrabi_lent_length(work, work_length),
-                           muongrabi_lent_area(result), muongrabi_lent_length(result, result_length),
-                           muongrabi_lent_bytes(patch), muongrabi_lent_length(patch, patch_length),
-                           muongrabi_lent_bytes(data), muongrabi_lent_length(data, data_length),
-                           muongrabi_lent_numbers(cuts), muongrabi_lent_length(cuts, cuts_length),
-                           state->hashes, state->sizes);
-    return muongrabi_answered(&answer, state);
+    uint64_t answer[5];
+    (void)muongrabi_abi_6();
+    muongrabi_run(muongrabi_lent_bytes(list), muongrabi_lent_length(list, list_length),
+                  muongrabi_lent_area(image), muongrabi_lent_length(image, image_length),
+                  muongrabi_lent_area(stash), muongrabi_lent_length(stash, stash_length),
+                  muongrabi_lent_area(work), muongrabi_lent_length(work, work_length),
+                  muongrabi_lent_area(result), muongrabi_lent_length(result, result_length),
+                  muongrabi_lent_bytes(patch), muongrabi_lent_length(patch, patch_length),
+                  muongrabi_lent_bytes(data), muongrabi_lent_length(data, data_length),
+                  muongrabi_lent_numbers(cuts), muongrabi_lent_length(cuts, cuts_length),
+                  state->bytes, answer);
+    return muongrabi_answered(answer);
 }
 
 /*
- * Writes the saved form of the state to out: MUONGRABI_SAVED bytes that every state has, laid out as docs/SAVED-FORM.md says, the same on every
- * 64-bit little-endian machine. Neither pointer may be null.
+ * Makes the state that has these fields; neither pointer may be null. Every value of every field has one, and no two share one: what muongrabi_restore
+ * has read becomes the same bytes again. To store a state it is not needed: its bytes are what is stored.
  */
-static inline void muongrabi_save_lent(const muongrabi_state *state, uint8_t out[MUONGRABI_SAVED])
+static inline void muongrabi_save_lent(const muongrabi_fields *fields, muongrabi_state *state)
 {
-    (void)muongrabi_abi_5();
-    muongrabi_save(state->hashes, state->sizes, muongrabi_progress_of(state), out);
+    size_t numbers[16];
+    (void)muongrabi_abi_6();
+    numbers[0] = fields->count;
+    numbers[1] = fields->line;
+    numbers[2] = fields->at;
+    numbers[3] = fields->into;
+    numbers[4] = fields->total;
+    numbers[5] = fields->ready;
+    numbers[6] = fields->stretches;
+    numbers[7] = fields->refusal.number;
+    numbers[8] = fields->refusal.line;
+    numbers[9] = fields->refusal.byte;
+    numbers[10] = fields->lengths.list;
+    numbers[11] = fields->lengths.image;
+    numbers[12] = fields->lengths.stash;
+    numbers[13] = fields->lengths.work;
+    numbers[14] = fields->lengths.result;
+    numbers[15] = fields->lengths.patch;
+    muongrabi_save(fields->hashes, fields->sizes, numbers, state->bytes);
 }
 
 /*
- * Reads a saved form. Gives number 0 and the state that was saved, or 20 exactly when the bytes are no state's saved form. It does not ask whether
- * the state fits a list and areas: a call does (17).
+ * Reads the fields of the state whose bytes these are, stored ones or state.bytes, and gives 0; or gives 20, exactly when the bytes are no state's saved
+ * form, and leaves *fields, which must not be null, as it was. It does not ask whether the state fits a list and areas: a call does (17).
  */
-static inline muongrabi_restored muongrabi_restore_lent(const uint8_t *bytes, size_t bytes_length)
+static inline size_t muongrabi_restore_lent(const uint8_t *bytes, size_t bytes_length, muongrabi_fields *fields)
 {
-    (void)muongrabi_abi_5();
-    return muongrabi_restore(muongrabi_lent_bytes(bytes), muongrabi_lent_length(bytes, bytes_length));
+    size_t numbers[16], number;
+    (void)muongrabi_abi_6();
+    number = muongrabi_restore(muongrabi_lent_bytes(bytes), muongrabi_lent_length(bytes, bytes_length), fields->hashes, fields->sizes, numbers);
+    if (number != 0) return number;
+    fields->count = numbers[0];
+    fields->line = numbers[1];
+    fields->at = numbers[2];
+    fields->into = numbers[3];
+    fields->total = numbers[4];
+    fields->ready = numbers[5];
+    fields->stretches = numbers[6];
+    fields->refusal.number = numbers[7];
+    fields->refusal.line = numbers[8];
+    fields->refusal.byte = numbers[9];
+    fields->lengths.list = numbers[10];
+    fields->lengths.image = numbers[11];
+    fields->lengths.stash = numbers[12];
+    fields->lengths.work = numbers[13];
+    fields->lengths.result = numbers[14];
+    fields->lengths.patch = numbers[15];
+    return 0;
 }
 
 /*
@@ -509,7 +491,7 @@ static inline muongrabi_restored muongrabi_restore_lent(const uint8_t *bytes, si
  */
 static inline uint32_t muongrabi_sparse_load_lent(const uint8_t *file, size_t file_length, uint8_t *image, size_t image_length)
 {
-    (void)muongrabi_abi_5();
+    (void)muongrabi_abi_6();
     return muongrabi_sparse_load(muongrabi_lent_bytes(file), muongrabi_lent_length(file, file_length),
                                  muongrabi_lent_area(image), muongrabi_lent_length(image, image_length));
 }

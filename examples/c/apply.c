@@ -3,7 +3,7 @@
  *
  * LIST is the transfer list, IMAGE the image that is updated in its place, a file, NEW the new data, all of it, read in pieces, so it may be larger
  * than memory, and PATCH the patch data, where the list has `bsdiff` lines. The stash, work and result areas are files beside the image, as large as
- * the list needs them, and IMAGE.saved has the saved form of the state, after opening and at every stop (docs/POWER-CUTS.md). Where that file is
+ * the list needs them, and IMAGE.saved has the bytes of the state, after opening and at every stop (docs/POWER-CUTS.md). Where that file is
  * found, the run goes on from there, with the new data from the byte on that it names. When the list is finished these files are removed. Where it is
  * refused, or the new data ends too soon, they stay, and the next run goes on; to begin anew with another image, remove IMAGE.saved first.
  * Prints `done T`, `more T` (T: bytes of new data taken in all) or `refused: ` and why; where a line is ill formed, then the line, and a mark under
@@ -138,7 +138,7 @@ static void sync_bytes(const stored *s)
     if (s->bytes && msync(s->bytes, s->length, MS_SYNC) != 0) fail(s->name);
 }
 
-/* --- the saved form, replaced whole or not at all */
+/* --- the state in storage, replaced whole or not at all */
 
 static void sync_folder(const char *name)
 {
@@ -151,13 +151,11 @@ static void sync_folder(const char *name)
 
 static void save(const char *name, const muongrabi_state *state)
 {
-    static uint8_t bytes[MUONGRABI_SAVED];
     char *fresh = beside(name, ".new");
     int file = open_file(fresh, O_WRONLY | O_CREAT | O_TRUNC);
     size_t done = 0;
-    muongrabi_save(state, bytes);
-    while (done < sizeof bytes) {
-        ssize_t put = write(file, bytes + done, sizeof bytes - done);
+    while (done < sizeof state->bytes) {
+        ssize_t put = write(file, state->bytes + done, sizeof state->bytes - done);
         if (put < 0) fail(fresh);
         done += (size_t)put;
     }
@@ -166,19 +164,19 @@ static void save(const char *name, const muongrabi_state *state)
     free(fresh);
 }
 
-/* Whether there is one; bytes that are no saved form end the program. */
-static int restore(const char *name, muongrabi_state *state)
+/* Whether there is one, and what its fields are; bytes that are no state's end the program. */
+static int restore(const char *name, muongrabi_state *state, muongrabi_fields *fields)
 {
     if (access(name, F_OK) != 0 && errno == ENOENT) return 0;
     size_t length;
     uint8_t *bytes = read_file(name, &length);
-    muongrabi_restored restored = muongrabi_restore(bytes, length);
+    size_t number = muongrabi_restore(bytes, length, fields);
+    if (number == 0) memcpy(state->bytes, bytes, sizeof state->bytes);
     free(bytes);
-    if (restored.number != 0) {
-        fprintf(stderr, "%s: %s (refusal %zu)\n", name, muongrabi_refusal_text(restored.number), restored.number);
+    if (number != 0) {
+        fprintf(stderr, "%s: %s (refusal %zu)\n", name, muongrabi_refusal_text(number), number);
         exit(2);
     }
-    *state = restored.state;
     return 1;
 }
 
@@ -222,19 +220,20 @@ static int refused(const uint8_t *list, size_t length, muongrabi_refusal refusal
 
 /* --- the areas that a list needs */
 
-static muongrabi_state opened(const uint8_t *list, const muongrabi_lengths *lengths)
+static muongrabi_refusal opened(const uint8_t *list, const muongrabi_lengths *lengths, muongrabi_state *state)
 {
-    return muongrabi_open(list, lengths->list, lengths->image, lengths->stash, lengths->work, lengths->result, lengths->patch);
+    return muongrabi_open(list, lengths->list, lengths->image, lengths->stash, lengths->work, lengths->result, lengths->patch, state);
 }
 
 /* Makes one of the lengths the least with which the list still opens. An opening takes lengths alone, so nothing is lent yet. */
 static void fit(const uint8_t *list, muongrabi_lengths *lengths, size_t *area)
 {
+    static muongrabi_state tried;
     size_t low = 0, high = *area / MUONGRABI_BLOCK;
     while (low < high) {
         size_t middle = low + (high - low) / 2;
         *area = middle * MUONGRABI_BLOCK;
-        if (opened(list, lengths).refusal.number == 0) high = middle;
+        if (opened(list, lengths, &tried).number == 0) high = middle;
         else low = middle + 1;
     }
     *area = high * MUONGRABI_BLOCK;
@@ -245,6 +244,7 @@ static uint8_t *list, *patch;
 static stored image, stash, work, result;
 static char *saved;
 static muongrabi_state state;
+static size_t total;   /* bytes of new data taken in all */
 
 /* Storage gets the bytes before the state that speaks of them, and the state before the next call writes. */
 static void keep(void)
@@ -273,18 +273,20 @@ int main(int argc, char **argv)
     lengths.image = image.length;
 
     saved = beside(image_name, ".saved");
-    int found = restore(saved, &state);
+    static muongrabi_fields fields;
+    int found = restore(saved, &state, &fields);
     if (found) {
-        lengths.stash = state.lengths.stash;
-        lengths.work = state.lengths.work;
-        lengths.result = state.lengths.result;
+        lengths.stash = fields.lengths.stash;
+        lengths.work = fields.lengths.work;
+        lengths.result = fields.lengths.result;
+        total = fields.total;
     } else {
-        state = opened(list, &lengths);
-        if (state.refusal.number != 0) return refused(list, lengths.list, state.refusal);
+        muongrabi_refusal refusal = opened(list, &lengths, &state);
+        if (refusal.number != 0) return refused(list, lengths.list, refusal);
         fit(list, &lengths, &lengths.stash);
         fit(list, &lengths, &lengths.work);
         fit(list, &lengths, &lengths.result);
-        state = opened(list, &lengths);
+        opened(list, &lengths, &state);
     }
     stash = map_area(image_name, ".stash", lengths.stash, found);
     work = map_area(image_name, ".work", lengths.work, found);
@@ -293,7 +295,7 @@ int main(int argc, char **argv)
         sync_folder(image_name);
         keep();
     }
-    skip(data, data_name, state.total);
+    skip(data, data_name, total);
 
     static uint8_t piece[1 << 16];
     size_t got;
@@ -305,6 +307,7 @@ int main(int argc, char **argv)
             answer = muongrabi_call(list, lengths.list, image.bytes, image.length, stash.bytes, stash.length, work.bytes, work.length,
                                     result.bytes, result.length, patch, lengths.patch, piece + used, got - used, &state);
             used += answer.taken;
+            total += answer.taken;
             if (answer.outcome != MUONGRABI_STOP) break;
             keep();
         }
@@ -316,8 +319,8 @@ int main(int argc, char **argv)
         if (answer.number == MUONGRABI_REFUSAL_STATE_IMPOSSIBLE) printf("    %s is of another update\n", saved);
         return status;
     }
-    /* The caller has the answer before the saved form goes: without it the next run would begin anew, over an image that is finished. */
-    if (printf("%s %zu\n", answer.outcome == MUONGRABI_DONE ? "done" : "more", state.total) < 0 || fflush(stdout) != 0) fail("standard output");
+    /* The caller has the answer before the saved state goes: without it the next run would begin anew, over an image that is finished. */
+    if (printf("%s %zu\n", answer.outcome == MUONGRABI_DONE ? "done" : "more", total) < 0 || fflush(stdout) != 0) fail("standard output");
     if (answer.outcome == MUONGRABI_MORE) return 1;
     /* The areas go last, when nothing in storage speaks of them. */
     if (unlink(saved) != 0) fail(saved);

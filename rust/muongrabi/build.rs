@@ -1,24 +1,30 @@
-//! Finds the archive of the proved library: in the folder MUONGRABI_LIB_DIR, else in target/staticlib of the repository.
+//! Finds the archive of the proved library: in the folder MUONGRABI_LIB_DIR, else in target/staticlib of the repository, for AArch64 in
+//! target/staticlib/aarch64.
 
 use std::env::{var, var_os};
 use std::path::{Path, PathBuf};
 
 const ARCHIVE: &str = "libmuongrabi.a";
 
-/// Only an archive with the structs of `src/exports.rs` has a function of this name.
-const ABI: &str = "muongrabi_abi_5";
+/// Only an archive with the functions of `src/exports.rs` has one of this name.
+const ABI: &str = "muongrabi_abi_6";
 
 fn main() {
     println!("cargo::rerun-if-changed=build.rs");
     println!("cargo::rerun-if-env-changed=MUONGRABI_LIB_DIR");
     let (arch, os) = (var("CARGO_CFG_TARGET_ARCH"), var("CARGO_CFG_TARGET_OS"));
-    if arch.as_deref() != Ok("x86_64") || os.as_deref() != Ok("linux") {
-        stop(&format!("{ARCHIVE} is for x86-64 Linux; this build is for {}.", var("TARGET").unwrap_or_else(|_| "another machine".into())));
-    }
+    let (built, what) = match (arch.as_deref(), os.as_deref()) {
+        (Ok("x86_64"), Ok("linux" | "android")) => ("target/staticlib", "library"),
+        (Ok("aarch64"), Ok("linux" | "android")) => ("target/staticlib/aarch64", "aarch64"),
+        _ => {
+            let target = var("TARGET").unwrap_or_else(|_| "another machine".into());
+            stop(&format!("{ARCHIVE} is for x86-64 and AArch64 Linux, Android among them; this build is for {target}."))
+        }
+    };
     let repository = Path::new(env!("CARGO_MANIFEST_DIR")).join("../..");
     let repository = repository.canonicalize().unwrap_or(repository);
     let named = var_os("MUONGRABI_LIB_DIR").filter(|folder| !folder.is_empty()).map(PathBuf::from);
-    let folder = named.clone().unwrap_or_else(|| repository.join("target/staticlib"));
+    let folder = named.clone().unwrap_or_else(|| repository.join(built));
     // Cargo runs a build script in the package's folder, so a relative name would not be the caller's.
     if folder.is_relative() {
         stop(&format!("MUONGRABI_LIB_DIR={} is a relative name; give the whole one.", folder.display()));
@@ -29,7 +35,7 @@ fn main() {
             "the proved library is not there: no {ARCHIVE} in {folder}{named}.\n\
              Build it, which also proves it (some minutes; it needs the Rattle toolchain):\n\
              \n\
-             \x20   cd {repository} && ./build library\n\
+             \x20   cd {repository} && ./build {what}\n\
              \n\
              or name the folder that has it:\n\
              \n\

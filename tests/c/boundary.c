@@ -1,7 +1,8 @@
 /*
- * Lent areas, states and saved forms stand against a page that may not be touched, behind them or before them, and list, patch data, piece, cuts
+ * Lent areas, states, fields and answers stand against a page that may not be touched, behind them or before them, and list, patch data, piece, cuts
  * and sparse file may not be written: a byte read or written outside what was lent ends the program. Each way to come to a stop may touch no block
- * but those it reads or writes by the rules. What is null, and refusals in words, are tried after that. Ends in one line `N passed, M failed`.
+ * but those it reads or writes by the rules. What is null, and refusals in words, are tried after that, and then the exports themselves. Ends in one
+ * line `N passed, M failed`.
  */
 #define _DEFAULT_SOURCE
 #include <stdio.h>
@@ -90,13 +91,71 @@ static int refusal_is(const muongrabi_refusal *refusal, size_t number, size_t li
     return refusal->number == number && refusal->line == line && refusal->byte == byte;
 }
 
-/* Nothing but its refusal. */
-static int only_refused(const muongrabi_state *state)
+static void put_form_number(uint8_t *form, size_t *at, size_t number)
 {
-    muongrabi_state refused;
+    for (int k = 0; k < 8; k++, number >>= 8) form[(*at)++] = (uint8_t)number;
+}
+
+/* The saved form as docs/SAVED-FORM.md has it. */
+static void form_of(const muongrabi_fields *fields, uint8_t form[MUONGRABI_SAVED])
+{
+    const muongrabi_refusal *refusal = &fields->refusal;
+    const muongrabi_lengths *lengths = &fields->lengths;
+    size_t progress[] = {fields->count, fields->line, fields->at, fields->into, fields->total, fields->ready, fields->stretches};
+    size_t refused[] = {refusal->number, refusal->line, refusal->byte};
+    size_t opened[] = {lengths->list, lengths->image, lengths->stash, lengths->work, lengths->result, lengths->patch};
+    const struct {
+        char mark[3];
+        const size_t *numbers;
+        size_t count;
+    } records[] = {{"SB", fields->sizes, MUONGRABI_MOST_STASHES}, {"SP", progress, 7}, {"SR", refused, 3}, {"SL", opened, 6}};
+    memcpy(form, "SH", 2);
+    memcpy(form + 2, fields->hashes, sizeof fields->hashes);
+    size_t at = 2 + sizeof fields->hashes;
+    for (size_t k = 0; k < 4; k++) {
+        form[at++] = (uint8_t)records[k].mark[0];
+        form[at++] = (uint8_t)records[k].mark[1];
+        for (size_t j = 0; j < records[k].count; j++) put_form_number(form, &at, records[k].numbers[j]);
+    }
+    if (at != MUONGRABI_SAVED) exit(2);
+}
+
+/* The state with these fields, made without the library. */
+static muongrabi_state state_of(const muongrabi_fields *fields)
+{
+    muongrabi_state state;
+    form_of(fields, state.bytes);
+    return state;
+}
+
+/* The state has these fields and no others. */
+static int has(const muongrabi_state *state, const muongrabi_fields *fields)
+{
+    muongrabi_state expected = state_of(fields);
+    return memcmp(state, &expected, sizeof expected) == 0;
+}
+
+static int same(const muongrabi_state *state, const muongrabi_state *other)
+{
+    return memcmp(state, other, sizeof *other) == 0;
+}
+
+/* What is in a state. That these are its fields is seen by making the state again. */
+static muongrabi_fields fields_of(const muongrabi_state *state)
+{
+    muongrabi_fields fields;
+    memset(&fields, 0xa5, sizeof fields);
+    if (muongrabi_restore(state->bytes, sizeof state->bytes, &fields) != 0 || !has(state, &fields)) check(0, "the fields of a state");
+    return fields;
+}
+
+/* Nothing but this refusal. */
+static int only_refused(const muongrabi_state *state, const muongrabi_refusal *refusal)
+{
+    muongrabi_fields refused;
     memset(&refused, 0, sizeof refused);
-    refused.refusal = state->refusal;
-    return state->refusal.number != 0 && memcmp(state, &refused, sizeof refused) == 0;
+    refused.refusal = *refusal;
+    return refusal->number != 0 && has(state, &refused);
 }
 
 static void name_of(const char *letters, char out[41])
@@ -108,12 +167,28 @@ static void name_of(const char *letters, char out[41])
     for (int k = 0; k < 20; k++) sprintf(out + 2 * k, "%02x", hash[k]);
 }
 
-static lot list_lot, image_lot, stash_lot, work_lot, result_lot, patch_lot, piece_lot, cuts_lot, hash_lot, file_lot, state_lot, form_lot;
+static lot list_lot, image_lot, stash_lot, work_lot, result_lot, patch_lot, piece_lot, cuts_lot, hash_lot, file_lot, state_lot, form_lot, fields_lot,
+    answer_lot;
 
 /* A state where the others lie. */
-static muongrabi_state *lay_state(muongrabi_state state, int behind)
+static muongrabi_state *lay_state(const muongrabi_state *state, int behind)
 {
-    return (muongrabi_state *)(void *)lay(&state_lot, &state, sizeof state, behind, 0);
+    return (muongrabi_state *)(void *)lay(&state_lot, state, sizeof *state, behind, 0);
+}
+
+/* The same of the state with these fields. */
+static muongrabi_state *lay_fields(const muongrabi_fields *fields, int behind)
+{
+    muongrabi_state state = state_of(fields);
+    return lay_state(&state, behind);
+}
+
+/* The same of bytes that are no state's, for what is only written. */
+static muongrabi_state *lay_no_state(int behind)
+{
+    muongrabi_state none;
+    memset(&none, 0xa5, sizeof none);
+    return lay_state(&none, behind);
 }
 
 /* Digests at every length around the padding, read and written against the pages. */
@@ -200,8 +275,7 @@ static void whole_runs(size_t length)
     fill(data, "pqr");
     const size_t all_stops = 13;   /* two for each stash, move and bsdiff, and one for the free */
     size_t pieces[] = {1, 64, 4095, 4096, 4097, 3 * BLOCK};
-    muongrabi_state last, other;
-    memset(&other, 0xa5, sizeof other);
+    muongrabi_state last;
     for (int behind = 0; behind < 2; behind++) {
         for (size_t k = 0; k < sizeof pieces / sizeof *pieces; k++) {
             fill(image, "ABCDEFGH");
@@ -214,11 +288,12 @@ static void whole_runs(size_t length)
             uint8_t *w = lay(&work_lot, work, sizeof work, behind, 0);
             uint8_t *r = lay(&result_lot, result, sizeof result, behind, 0);
             const uint8_t *p = lay(&patch_lot, patch, patch_length, behind, 1);
-            muongrabi_state *state = lay_state(
-                muongrabi_open(l, length, sizeof image, sizeof stash, sizeof work, sizeof result, patch_length), behind);
+            muongrabi_state *state = lay_no_state(behind);
+            muongrabi_refusal refusal =
+                muongrabi_open(l, length, sizeof image, sizeof stash, sizeof work, sizeof result, patch_length, state);
             muongrabi_answer answer = {.outcome = MUONGRABI_MORE};
             size_t taken = 0, end = 0, stops = 0;
-            int good = 1;
+            int good = refusal_is(&refusal, 0, 0, 0);
             do {
                 /* A new piece after more. After a stop the bytes not taken; with some lengths there is more behind them. */
                 if (answer.outcome == MUONGRABI_MORE || k % 2 == 0) end = sizeof data - taken < pieces[k] ? sizeof data : taken + pieces[k];
@@ -227,16 +302,17 @@ static void whole_runs(size_t length)
                                         piece, end - taken, state);
                 taken += answer.taken;
                 stops += answer.outcome == MUONGRABI_STOP;
-                good &= sound(&answer) && taken <= end && state->total == taken;
+                good &= sound(&answer) && taken <= end && fields_of(state).total == taken;
                 if (answer.outcome == MUONGRABI_MORE) good &= taken == end;
                 else good &= answer.outcome != MUONGRABI_REFUSED;
             } while (answer.outcome == MUONGRABI_STOP || (answer.outcome == MUONGRABI_MORE && taken < sizeof data));
             check(good && answer.outcome == MUONGRABI_DONE && taken == sizeof data, "a run's end");
             check(stops == all_stops, "a run's stops");
             check(holds(i, "p0HqBr0s") && holds(s, "HBH") && holds(w, "rHqv") && holds(r, "sl"), "what a run leaves");
-            check(state->count == 1 && state->sizes[0] == 1 && state->at == length && state->line == 16, "the state at the end");
-            check(state->total == sizeof data && state->ready == 0 && state->stretches == 0 && state->into == 0, "its total and its marks");
-            check(state->lengths.result == sizeof result && state->lengths.patch == patch_length, "the lengths in a state");
+            muongrabi_fields fields = fields_of(state);
+            check(fields.count == 1 && fields.sizes[0] == 1 && fields.at == length && fields.line == 16, "the state at the end");
+            check(fields.total == sizeof data && fields.ready == 0 && fields.stretches == 0 && fields.into == 0, "its total and its marks");
+            check(fields.lengths.result == sizeof result && fields.lengths.patch == patch_length, "the lengths in a state");
             last = *state;
         }
         size_t cuts[] = {0, 1, 4096, 5000, 0, 99999};
@@ -253,11 +329,11 @@ static void whole_runs(size_t length)
         const uint8_t *d = lay(&piece_lot, data, sizeof data, behind, 1);
         const size_t *c = (const size_t *)(const void *)lay(&cuts_lot, cuts, sizeof cuts, behind, 1);
         /* Whatever the state held. */
-        muongrabi_state *state = lay_state(other, behind);
+        muongrabi_state *state = lay_no_state(behind);
         muongrabi_answer answer = muongrabi_run(l, length, i, sizeof image, s, sizeof stash, w, sizeof work, r, sizeof result,
                                                 p, patch_length, d, sizeof data, c, 6, state);
         check(answer.outcome == MUONGRABI_DONE && answer.taken == sizeof data, "a run over cuts");
-        check(memcmp(state, &last, sizeof last) == 0, "the state after a run over cuts");
+        check(same(state, &last), "the state after a run over cuts");
         check(holds(i, "p0HqBr0s") && holds(s, "HBH") && holds(w, "rHqv") && holds(r, "sl"), "what a run over cuts leaves");
     }
 }
@@ -271,14 +347,15 @@ static void beginnings(size_t length)
     int good = 1;
     for (size_t n = 0; n <= length; n++) {
         const uint8_t *l = lay(&list_lot, list, n, 1, 1);
-        muongrabi_state state = muongrabi_open(l, n, sizeof image, sizeof stash, sizeof work, sizeof result, patch_length);
-        size_t number = state.refusal.number;
-        good &= n == length ? number == 0 : only_refused(&state) && (with_byte(number) || number == 15);
-        good &= state.refusal.byte == (with_byte(number) ? n : 0);
+        muongrabi_state *opened = lay_no_state(1);
+        muongrabi_refusal refusal = muongrabi_open(l, n, sizeof image, sizeof stash, sizeof work, sizeof result, patch_length, opened);
+        size_t number = refusal.number;
+        good &= n == length ? number == 0 : only_refused(opened, &refusal) && (with_byte(number) || number == 15);
+        good &= refusal.byte == (with_byte(number) ? n : 0);
         for (size_t at = 0, line = 1; at <= n; at++) {
             if (at > 0 && list[at - 1] == '\n') line++;
             if (at > 0 && at < n && list[at - 1] != '\n') continue;
-            muongrabi_state from;
+            muongrabi_fields from;
             memset(&from, 0, sizeof from);
             from.at = at;
             from.line = line;
@@ -290,7 +367,7 @@ static void beginnings(size_t length)
             uint8_t *r = lay(&result_lot, result, sizeof result, 1, 0);
             const uint8_t *p = lay(&patch_lot, patch, patch_length, 1, 1);
             const uint8_t *d = lay(&piece_lot, data, sizeof data, 1, 1);
-            muongrabi_state *called = lay_state(from, 1);
+            muongrabi_state *called = lay_fields(&from, 1);
             muongrabi_answer answer;
             size_t taken = 0;
             do {
@@ -383,16 +460,18 @@ static void patches(void)
             for (size_t bytes = 0; bytes <= 4; bytes++) {
                 length = make_patch_list(from, bytes);
                 l = lay(&list_lot, patch_list, length, behind, 1);
-                muongrabi_state state = muongrabi_open(l, length, sizeof image, 0, sizeof work, sizeof result, patch_length);
-                good &= state.refusal.number == (from + bytes > patch_length ? MUONGRABI_REFUSAL_PAST_PATCH : 0u);
+                muongrabi_refusal refusal = muongrabi_open(l, length, sizeof image, 0, sizeof work, sizeof result, patch_length, &after);
+                good &= refusal.number == (from + bytes > patch_length ? MUONGRABI_REFUSAL_PAST_PATCH : 0u);
                 uint8_t *i = lay(&image_lot, image, sizeof image, behind, 0);
                 uint8_t *w = lay(&work_lot, work, sizeof work, behind, 0);
                 uint8_t *r = lay(&result_lot, result, sizeof result, behind, 0);
                 const uint8_t *p = lay(&patch_lot, patch, patch_length, behind, 1);
-                memset(&state, 0, sizeof state);
-                state.at = 8;
-                state.line = 5;
-                state.lengths = (muongrabi_lengths){length, sizeof image, 0, sizeof work, sizeof result, patch_length};
+                muongrabi_fields fields;
+                memset(&fields, 0, sizeof fields);
+                fields.at = 8;
+                fields.line = 5;
+                fields.lengths = (muongrabi_lengths){length, sizeof image, 0, sizeof work, sizeof result, patch_length};
+                muongrabi_state state = state_of(&fields);
                 muongrabi_answer answer =
                     muongrabi_call(l, length, i, sizeof image, NULL, 0, w, sizeof work, r, sizeof result, p, patch_length, NULL, 0, &state);
                 good &= answer.number == (from + bytes > patch_length ? MUONGRABI_REFUSAL_PAST_PATCH : MUONGRABI_REFUSAL_PATCH_MALFORMED);
@@ -412,7 +491,8 @@ static void patches(void)
         muongrabi_state *state = malloc(sizeof *state);
         if (!state) exit(2);
         muongrabi_answer answer = muongrabi_run(l, length, i, 2 * BLOCK, NULL, 0, w, BLOCK, r, BLOCK, p, n, NULL, 0, NULL, 0, state);
-        check(state->refusal.number == answer.number && state->line == (n == patch_length ? 6u : 5u), "a state in allocated memory");
+        muongrabi_fields fields = fields_of(state);
+        check(fields.refusal.number == answer.number && fields.line == (n == patch_length ? 6u : 5u), "a state in allocated memory");
         check(n == patch_length ? answer.outcome == MUONGRABI_DONE && holds(i, "rs") && holds(r, "s") : answer.number == 19 && holds(i, "rq"),
               "a patch in allocated memory");
         free(l);
@@ -459,23 +539,23 @@ static void finished_lines(void)
         if (k == 8) snprintf(line, sizeof line, "bsdiff 0 1 %s %s 4,1,2,1,2 1 2,4,5", a, bb);
         size_t length = (size_t)snprintf(text, sizeof text, "3\n%d\n1\n1\n%s\n", k == 7 ? 1 : 2, line);
         /* The stash A is held by hand: a `stash` line would write. */
-        muongrabi_state state;
-        memset(&state, 0, sizeof state);
-        state.at = 8;
-        state.line = 5;
-        state.count = 1;
-        state.sizes[0] = 1;
-        muongrabi_digest(image, BLOCK, state.hashes);
-        state.lengths = (muongrabi_lengths){length, i.room, s.room, w.room, r.room, p.room};
-        muongrabi_state *called = lay_state(state, k % 2), after = state;
-        after.at = length;
-        after.line = 6;
+        muongrabi_fields fields;
+        memset(&fields, 0, sizeof fields);
+        fields.at = 8;
+        fields.line = 5;
+        fields.count = 1;
+        fields.sizes[0] = 1;
+        muongrabi_digest(image, BLOCK, fields.hashes);
+        fields.lengths = (muongrabi_lengths){length, i.room, s.room, w.room, r.room, p.room};
+        muongrabi_state *called = lay_fields(&fields, k % 2);
+        fields.at = length;
+        fields.line = 6;
         /* It stops behind the line, and then the list is finished. */
         for (int again = 0; again < 2; again++) {
             muongrabi_answer answer = muongrabi_call(lay(&list_lot, text, length, k % 2, 1), length, i.first, i.room, s.first, s.room,
                                                      w.first, w.room, r.first, r.room, p.first, p.room, lay(&piece_lot, "piece", 5, 1, 1), 5, called);
             check(answer.outcome == (again ? MUONGRABI_DONE : MUONGRABI_STOP) && answer.taken == 0, "a finished line");
-            check(memcmp(called, &after, sizeof after) == 0, "the state behind a finished line");
+            check(has(called, &fields), "the state behind a finished line");
         }
     }
 }
@@ -488,16 +568,18 @@ static void nothing_lent(void)
     lot none = new_lot(0);
     for (int behind = 0; behind < 2; behind++) {
         const uint8_t *l = lay(&list_lot, empty, strlen(empty), behind, 1);
-        muongrabi_state state = muongrabi_open(l, strlen(empty), 0, 0, 0, 0, 0);
+        muongrabi_state state;
+        muongrabi_refusal refusal = muongrabi_open(l, strlen(empty), 0, 0, 0, 0, 0, &state);
+        check(refusal_is(&refusal, 0, 0, 0), "the empty list opened");
         muongrabi_answer answer = muongrabi_call(l, strlen(empty), none.first, 0, none.first, 0, none.first, 0, none.first, 0, none.first, 0,
                                                  none.first, 0, &state);
         check(answer.outcome == MUONGRABI_DONE && answer.taken == 0, "the empty list with nothing lent");
-        state = muongrabi_open(none.first, 0, 0, 0, 0, 0, 0);
-        check(refusal_is(&state.refusal, 3, 1, 0), "no list");
+        refusal = muongrabi_open(none.first, 0, 0, 0, 0, 0, 0, &state);
+        check(refusal_is(&refusal, 3, 1, 0) && only_refused(&state, &refusal), "no list");
         answer = muongrabi_run(none.first, 0, none.first, 0, none.first, 0, none.first, 0, none.first, 0, none.first, 0,
                                none.first, 0, (const size_t *)(const void *)none.first, 0, &state);
         check(is_refused(&answer, 3, 1, 0), "a run over no list");
-        check(only_refused(&state), "the state of a run over no list");
+        check(only_refused(&state, &refusal), "the state of a run over no list");
     }
 
     static uint8_t image[BLOCK];
@@ -507,23 +589,26 @@ static void nothing_lent(void)
     const uint8_t *l = lay(&list_lot, some, strlen(some), 1, 1);
     uint8_t *i = lay(&image_lot, image, BLOCK, 1, 0);
     const uint8_t *d = lay(&piece_lot, "0123456789", 10, 1, 1);
-    muongrabi_state open = muongrabi_open(l, strlen(some), BLOCK, 0, 0, 0, 0);
-    check(open.refusal.number == 0, "a list to disturb");
+    muongrabi_state opened;
+    muongrabi_refusal refusal = muongrabi_open(l, strlen(some), BLOCK, 0, 0, 0, 0, &opened);
+    check(refusal.number == 0, "a list to disturb");
+    muongrabi_fields open = fields_of(&opened);
     for (size_t a = 0; a < many; a++) {
         for (size_t b = 0; b < many; b++) {
             for (size_t c = 0; c < 11; c++) {
-                muongrabi_state state = open;
-                size_t *fields[] = {&state.at, &state.line, &state.into, &state.count, &state.sizes[0], &state.sizes[MUONGRABI_MOST_STASHES - 1],
-                                    &state.lengths.result, &state.lengths.patch, &state.total, &state.ready, &state.stretches};
-                *fields[c] = borders[a];
-                *fields[(c + 1 + a % 10) % 11] = borders[b];
-                muongrabi_state *called = lay_state(state, (int)(a + b) % 2);
+                muongrabi_fields fields = open;
+                size_t *disturbed[] = {&fields.at, &fields.line, &fields.into, &fields.count, &fields.sizes[0],
+                                       &fields.sizes[MUONGRABI_MOST_STASHES - 1], &fields.lengths.result, &fields.lengths.patch, &fields.total,
+                                       &fields.ready, &fields.stretches};
+                *disturbed[c] = borders[a];
+                *disturbed[(c + 1 + a % 10) % 11] = borders[b];
+                muongrabi_state *called = lay_fields(&fields, (int)(a + b) % 2);
                 muongrabi_answer answer = muongrabi_call(l, strlen(some), i, BLOCK, none.first, 0, none.first, 0, none.first, 0, none.first, 0,
                                                          d, 10, called);
                 /* The total wraps, and no stop is near. */
-                good &= sound(&answer) && answer.outcome != MUONGRABI_STOP && called->total == state.total + answer.taken;
-                if (state.ready != 0 || state.stretches != 0) good &= answer.number == 17;
-                if (answer.number == 17) good &= answer.taken == 0 && memcmp(called, &state, sizeof state) == 0;
+                good &= sound(&answer) && answer.outcome != MUONGRABI_STOP && fields_of(called).total == fields.total + answer.taken;
+                if (fields.ready != 0 || fields.stretches != 0) good &= answer.number == 17;
+                if (answer.number == 17) good &= answer.taken == 0 && has(called, &fields);
             }
         }
     }
@@ -572,32 +657,35 @@ static void faults(void)
         fill(image, "A");
         const uint8_t *l = lay(&list_lot, text, length, behind, 1);
         uint8_t *i = lay(&image_lot, image, BLOCK, behind, 0);
-        muongrabi_state opened = muongrabi_open(l, length, BLOCK, 0, 0, 0, 0);
-        check(refusal_is(&opened.refusal, number, line, byte) && only_refused(&opened), "an ill formed list");
-        muongrabi_state *state = lay_state(opened, behind);
-        memset(state, 0xa5, sizeof *state);
+        muongrabi_state *state = lay_no_state(behind);
+        muongrabi_refusal refusal = muongrabi_open(l, length, BLOCK, 0, 0, 0, 0, state);
+        check(refusal_is(&refusal, number, line, byte) && only_refused(state, &refusal), "an ill formed list");
+        state = lay_no_state(behind);
         muongrabi_answer answer = muongrabi_run(l, length, i, BLOCK, none.first, 0, none.first, 0, none.first, 0, none.first, 0,
                                                 none.first, 0, (const size_t *)(const void *)none.first, 0, state);
-        check(is_refused(&answer, number, line, byte) && memcmp(state, &opened, sizeof opened) == 0, "a run over an ill formed list");
+        check(is_refused(&answer, number, line, byte) && only_refused(state, &refusal), "a run over an ill formed list");
         check(holds(i, "A"), "the image after it");
 
         /* From where a good list with this header would begin. */
-        memset(state, 0, sizeof *state);
-        state->at = 8;
-        state->line = 5;
-        state->lengths = (muongrabi_lengths){.list = length, .image = BLOCK};
+        muongrabi_fields fields;
+        memset(&fields, 0, sizeof fields);
+        fields.at = 8;
+        fields.line = 5;
+        fields.lengths = (muongrabi_lengths){.list = length, .image = BLOCK};
+        state = lay_fields(&fields, behind);
         muongrabi_state before = *state;
         answer = muongrabi_call(l, length, i, BLOCK, none.first, 0, none.first, 0, none.first, 0, none.first, 0, none.first, 0, state);
         if (number == MUONGRABI_REFUSAL_HEADER_FORM) {
-            check(is_refused(&answer, 17, 0, 0) && memcmp(state, &before, sizeof before) == 0, "a call over an ill formed header");
+            check(is_refused(&answer, 17, 0, 0) && same(state, &before), "a call over an ill formed header");
             continue;
         }
-        check(is_refused(&answer, number, line, byte) && refusal_is(&state->refusal, number, line, byte), "a call over an ill formed line");
+        fields = fields_of(state);
+        check(is_refused(&answer, number, line, byte) && refusal_is(&fields.refusal, number, line, byte), "a call over an ill formed line");
         check(holds(i, line == 5 ? "A" : "0"), "the image after that");
         before = *state;
         l = lay(&list_lot, good, strlen(good), behind, 1);
         answer = muongrabi_call(l, strlen(good), i, BLOCK, none.first, 0, none.first, 0, none.first, 0, none.first, 0, none.first, 0, state);
-        check(is_refused(&answer, number, line, byte) && memcmp(state, &before, sizeof before) == 0, "the same again");
+        check(is_refused(&answer, number, line, byte) && same(state, &before), "the same again");
     }
 }
 
@@ -629,16 +717,19 @@ static muongrabi_answer call_kept(const char *text, size_t length, uint8_t *imag
 }
 
 /* Tables in which every row is another; 255 stashes of one block are held, at the first command line of this list. */
-static muongrabi_state full_but_one(const char *text)
+static muongrabi_fields full_but_one(const char *text)
 {
-    muongrabi_state state = muongrabi_open((const uint8_t *)text, strlen(text), BLOCK, sizeof kept_stash, BLOCK, 0, 0);
+    muongrabi_state opened;
+    muongrabi_refusal refusal = muongrabi_open((const uint8_t *)text, strlen(text), BLOCK, sizeof kept_stash, BLOCK, 0, 0, &opened);
+    check(refusal.number == 0, "a list for a full table");
+    muongrabi_fields fields = fields_of(&opened);
     for (size_t k = 0; k < MUONGRABI_MOST_STASHES; k++) {
-        memset(state.hashes + 20 * k, (int)k, 20);
-        state.sizes[k] = 1;
+        memset(fields.hashes + 20 * k, (int)k, 20);
+        fields.sizes[k] = 1;
     }
-    state.sizes[MUONGRABI_MOST_STASHES - 1] = 77;
-    state.count = MUONGRABI_MOST_STASHES - 1;
-    return state;
+    fields.sizes[MUONGRABI_MOST_STASHES - 1] = 77;
+    fields.count = MUONGRABI_MOST_STASHES - 1;
+    return fields;
 }
 
 /* A state is changed where it lies: the tables to their last rows, nothing beside them, and nothing at all where a call is refused so. */
@@ -655,46 +746,45 @@ static void states_in_place(void)
     name_of("A", a);
     snprintf(text, sizeof text, "3\n1\n256\n256\nstash %s 2,0,1\nnew 2,0,1\nfree %s\n", a, a);
     size_t length = strlen(text);
-    muongrabi_state state = full_but_one(text);
-    check(state.refusal.number == 0, "a list for a full table");
+    const muongrabi_fields full = full_but_one(text);
 
-    /* 17, by a field of the progress, a row of either table or a length: nothing of the state is another. */
+    /* 17, by a number, a row of either table or a length: nothing of the state is another. */
     for (int k = 0; k < 9; k++) {
-        kept.state = state;
-        if (k == 0) kept.state.at++;
-        if (k == 1) kept.state.count = MUONGRABI_MOST_STASHES + 1;
-        if (k == 2) memcpy(kept.state.hashes + 20 * 254, kept.state.hashes, 20);
-        if (k == 3) kept.state.sizes[254] = 3;
-        if (k == 4) kept.state.into = 1;
-        if (k == 5) kept.state.stretches = 1;
-        if (k == 6) kept.state.sizes[0] = 0;
-        if (k == 7) kept.state.sizes[254] = 0;
-        muongrabi_state before = kept.state;
+        muongrabi_fields fields = full;
+        if (k == 0) fields.at++;
+        if (k == 1) fields.count = MUONGRABI_MOST_STASHES + 1;
+        if (k == 2) memcpy(fields.hashes + 20 * 254, fields.hashes, 20);
+        if (k == 3) fields.sizes[254] = 3;
+        if (k == 4) fields.into = 1;
+        if (k == 5) fields.stretches = 1;
+        if (k == 6) fields.sizes[0] = 0;
+        if (k == 7) fields.sizes[254] = 0;
+        kept.state = state_of(&fields);
         muongrabi_answer answer = call_kept(text, k == 8 ? length - 1 : length, image, work, data, BLOCK);
         check(is_refused(&answer, 17, 0, 0), "17");
-        check(memcmp(&kept.state, &before, sizeof before) == 0, "the state after 17");
+        check(has(&kept.state, &fields), "the state after 17");
     }
     /* A refusal that is held, whatever it is, with a table that is good, and with one that would be 17 without it. */
     static const muongrabi_refusal held[] = {{16, 9, 0}, {16, 9, 77}, {6, 5, 8}, {6, 0, SIZE_MAX}, {3, 1, 0}, {3, 7, 4194305}, {17, 0, 3},
                                              {20, 0, 0}, {99, 98, 97}, {SIZE_MAX, SIZE_MAX, SIZE_MAX}};
     for (size_t k = 0; k < 2 * sizeof held / sizeof *held; k++) {
         muongrabi_refusal refusal = held[k / 2];
-        kept.state = state;
-        kept.state.refusal = refusal;
-        if (k % 2 == 1) kept.state.count = SIZE_MAX, kept.state.stretches = 7;
-        muongrabi_state before = kept.state;
+        muongrabi_fields fields = full;
+        fields.refusal = refusal;
+        if (k % 2 == 1) fields.count = SIZE_MAX, fields.stretches = 7;
+        kept.state = state_of(&fields);
         muongrabi_answer answer = call_kept(text, length, image, work, data, BLOCK);
         check(is_refused(&answer, refusal.number, refusal.line, refusal.byte), "a held refusal");
-        check(memcmp(&kept.state, &before, sizeof before) == 0, "the state after a held refusal");
+        check(has(&kept.state, &fields), "the state after a held refusal");
     }
     check(holds(image, "A") && holds(kept_stash, "x") && holds(last_block, "x") && holds(work, "w"), "the areas after those");
 
     /* The last rows are written, and no others: not while the work area is filled, and then with the stash. */
-    kept.state = state;
+    kept.state = state_of(&full);
     muongrabi_answer answer = call_kept(text, length, image, work, NULL, 0);
-    muongrabi_state expected = state;
+    muongrabi_fields expected = full;
     expected.ready = 1;
-    check(answer.outcome == MUONGRABI_STOP && answer.taken == 0 && memcmp(&kept.state, &expected, sizeof expected) == 0, "a stash that is ready");
+    check(answer.outcome == MUONGRABI_STOP && answer.taken == 0 && has(&kept.state, &expected), "a stash that is ready");
     answer = call_kept(text, length, image, work, NULL, 0);
     expected.ready = 0;
     expected.count = MUONGRABI_MOST_STASHES;
@@ -703,12 +793,13 @@ static void states_in_place(void)
     uint8_t *last = expected.hashes + 20 * (MUONGRABI_MOST_STASHES - 1);
     muongrabi_digest(image, BLOCK, last);
     expected.sizes[MUONGRABI_MOST_STASHES - 1] = 1;
-    check(answer.outcome == MUONGRABI_STOP && answer.taken == 0 && memcmp(&kept.state, &expected, sizeof expected) == 0, "a full table");
+    check(answer.outcome == MUONGRABI_STOP && answer.taken == 0 && has(&kept.state, &expected), "a full table");
     answer = call_kept(text, length, image, work, NULL, 0);
-    check(answer.outcome == MUONGRABI_MORE && answer.taken == 0 && memcmp(&kept.state, &expected, sizeof expected) == 0, "and more data");
+    check(answer.outcome == MUONGRABI_MORE && answer.taken == 0 && has(&kept.state, &expected), "and more data");
     answer = call_kept(text, length, image, work, data, BLOCK);
-    check(answer.outcome == MUONGRABI_DONE && answer.taken == BLOCK && kept.state.count == MUONGRABI_MOST_STASHES - 1, "one stash freed");
-    check(memcmp(kept.state.hashes, state.hashes, 20 * (MUONGRABI_MOST_STASHES - 1)) == 0, "the hashes of those still held");
+    muongrabi_fields freed = fields_of(&kept.state);
+    check(answer.outcome == MUONGRABI_DONE && answer.taken == BLOCK && freed.count == MUONGRABI_MOST_STASHES - 1, "one stash freed");
+    check(memcmp(freed.hashes, full.hashes, 20 * (MUONGRABI_MOST_STASHES - 1)) == 0, "the hashes of those still held");
     check(holds(image, "p") && holds(last_block, "A") && holds(last_block - BLOCK, "x"), "the areas at the end");
 
     /* A run puts the state into its place, whatever was there, and a refused opening's too. */
@@ -716,7 +807,11 @@ static void states_in_place(void)
     for (int k = 0; k < 2; k++) {
         memset(&kept, 0xc3, sizeof kept);
         size_t n = k == 0 ? length : 7;
-        muongrabi_state opened = muongrabi_open((const uint8_t *)text, n, BLOCK, sizeof kept_stash, BLOCK, 0, 0);
+        muongrabi_refusal refusal = muongrabi_open((const uint8_t *)text, n, BLOCK, sizeof kept_stash, BLOCK, 0, 0, &kept.state);
+        check(stayed(kept.before) && stayed(kept.after), "the bytes around an opening's state");
+        muongrabi_fields opened = fields_of(&kept.state);
+        check(refusal_is(&opened.refusal, refusal.number, refusal.line, refusal.byte), "an opening's refusal in its state");
+        memset(&kept, 0xc3, sizeof kept);
         answer = muongrabi_run((const uint8_t *)text, n, image, BLOCK, kept_stash, sizeof kept_stash, work, BLOCK, NULL, 0, NULL, 0, NULL, 0,
                                NULL, 0, &kept.state);
         check(stayed(kept.before) && stayed(kept.after), "the bytes around a run's state");
@@ -728,7 +823,7 @@ static void states_in_place(void)
             memcpy(opened.hashes, last, 20);
         }
         check(answer.outcome == (k == 0 ? MUONGRABI_MORE : MUONGRABI_REFUSED) && answer.taken == 0, "a run's answer");
-        check(memcmp(&kept.state, &opened, sizeof opened) == 0, "a run's state");
+        check(has(&kept.state, &opened), "a run's state");
     }
 }
 
@@ -748,8 +843,8 @@ static void mix(uint8_t *out, const uint8_t *before, size_t length, unsigned *di
 }
 
 /*
- * A list with every kind of stop, call by call. Before each call the state is saved and read again. After it, the call is made again from that
- * state over image and areas as a cut may have left them: what the call wrote is there in part.
+ * A list with every kind of stop, call by call. Before each call the bytes of the state are stored and read again. After it, the call is made again
+ * from them over image and areas as a cut may have left them: what the call wrote is there in part.
  */
 static void every_stop(void)
 {
@@ -774,7 +869,7 @@ static void every_stop(void)
         {MUONGRABI_STOP, 0, 16, 0, 0, 1, "AABCErps", "CDEFpFp", "rBCw", "sk"},
         {MUONGRABI_DONE, 0, 17, 0, 0, 1, "0ABCErps", "CDEFpFp", "rBCw", "sk"},
     };
-    static uint8_t image[8 * BLOCK], stash[7 * BLOCK], work[4 * BLOCK], result[2 * BLOCK], data[2 * BLOCK], form[MUONGRABI_SAVED];
+    static uint8_t image[8 * BLOCK], stash[7 * BLOCK], work[4 * BLOCK], result[2 * BLOCK], data[2 * BLOCK], stored[MUONGRABI_SAVED];
     static uint8_t before[sizeof image + sizeof stash + sizeof work + sizeof result];
     static char text[1500];
     char ab[41], cde[41], fp[41], abc[41], r[41], s[41];
@@ -799,13 +894,15 @@ static void every_stop(void)
         fill(stash, "xxxxxxx");
         fill(work, "wwww");
         fill(result, "kk");
-        muongrabi_state state = muongrabi_open(l, length, sizeof image, sizeof stash, sizeof work, sizeof result, patch_length);
-        check(state.refusal.number == 0, "a list with every stop");
+        muongrabi_state state;
+        muongrabi_refusal refusal = muongrabi_open(l, length, sizeof image, sizeof stash, sizeof work, sizeof result, patch_length, &state);
+        check(refusal.number == 0, "a list with every stop");
+        muongrabi_fields fields = fields_of(&state);
         for (size_t k = 0; k < sizeof calls / sizeof *calls; k++) {
             const left *then = &calls[k];
-            const uint8_t *piece = data + state.total;
-            size_t n = empty ? then->taken : sizeof data - state.total;
-            muongrabi_save(&state, form);
+            const uint8_t *piece = data + fields.total;
+            size_t n = empty ? then->taken : sizeof data - fields.total;
+            memcpy(stored, state.bytes, sizeof stored);
             memcpy(before, image, sizeof image);
             memcpy(before + sizeof image, stash, sizeof stash);
             memcpy(before + sizeof image + sizeof stash, work, sizeof work);
@@ -817,19 +914,19 @@ static void every_stop(void)
                     mix(work, before + sizeof image + sizeof stash, sizeof work, &dice);
                     mix(result, before + sizeof image + sizeof stash + sizeof work, sizeof result, &dice);
                 }
-                muongrabi_restored restored = muongrabi_restore(form, sizeof form);
-                check(restored.number == 0 && restored.state.total == (size_t)(piece - data), "a state read at a stop");
-                state = restored.state;
+                check(muongrabi_restore(stored, sizeof stored, &fields) == 0 && fields.total == (size_t)(piece - data), "a state read at a stop");
+                memcpy(state.bytes, stored, sizeof stored);
                 muongrabi_answer answer = muongrabi_call(l, length, image, sizeof image, stash, sizeof stash, work, sizeof work,
                                                          result, sizeof result, patch, patch_length, piece, n, &state);
                 check(sound(&answer) && answer.outcome == then->outcome && answer.taken == then->taken, "a stop's answer");
-                check(state.line == then->line && state.ready == then->ready && state.stretches == then->stretches && state.count == then->count &&
-                      state.total == (size_t)(piece - data) + then->taken && state.into == 0, "the state at a stop");
+                fields = fields_of(&state);
+                check(fields.line == then->line && fields.ready == then->ready && fields.stretches == then->stretches && fields.count == then->count &&
+                      fields.total == (size_t)(piece - data) + then->taken && fields.into == 0, "the state at a stop");
                 check(holds(image, then->image) && holds(stash, then->stash) && holds(work, then->work) && holds(result, then->result),
                       "image and areas at a stop");
             }
         }
-        check(state.total == sizeof data && state.at == length, "the end behind every stop");
+        check(fields.total == sizeof data && fields.at == length, "the end behind every stop");
     }
 }
 
@@ -941,153 +1038,142 @@ static void what_a_step_touches(void)
         fill(w.first, "abcd");
         fill(t.first, "klm");
         memcpy(p.first, patch, patch_length);
-        muongrabi_state state;
-        memset(&state, 0, sizeof state);
-        state.at = 8;
-        state.line = 5;
-        state.count = 3;
-        state.sizes[0] = 2, state.sizes[1] = 3, state.sizes[2] = 2;
-        muongrabi_digest(h.first, 2 * BLOCK, state.hashes);
-        muongrabi_digest(h.first + 2 * BLOCK, 3 * BLOCK, state.hashes + 20);
-        muongrabi_digest(h.first + 5 * BLOCK, 2 * BLOCK, state.hashes + 40);
-        state.total = SIZE_MAX - 7;
-        state.ready = steps[k].ready;
-        state.stretches = steps[k].stretches;
-        state.lengths = (muongrabi_lengths){length, i.room, h.room, w.room, t.room, patch_length};
+        muongrabi_fields before;
+        memset(&before, 0, sizeof before);
+        before.at = 8;
+        before.line = 5;
+        before.count = 3;
+        before.sizes[0] = 2, before.sizes[1] = 3, before.sizes[2] = 2;
+        muongrabi_digest(h.first, 2 * BLOCK, before.hashes);
+        muongrabi_digest(h.first + 2 * BLOCK, 3 * BLOCK, before.hashes + 20);
+        muongrabi_digest(h.first + 5 * BLOCK, 2 * BLOCK, before.hashes + 40);
+        before.total = SIZE_MAX - 7;
+        before.ready = steps[k].ready;
+        before.stretches = steps[k].stretches;
+        before.lengths = (muongrabi_lengths){length, i.room, h.room, w.room, t.room, patch_length};
         const char *pages[] = {steps[k].image, steps[k].stash, steps[k].work, steps[k].result, steps[k].patch};
         for (int n = 0; n < 5; n++) allow(all[n], pages[n]);
-        muongrabi_state *called = lay_state(state, k % 2);
+        muongrabi_state *called = lay_fields(&before, k % 2);
         muongrabi_answer answer = muongrabi_call(lay(&list_lot, text, length, k % 2, 1), length, i.first, i.room, h.first, h.room, w.first, w.room,
                                                  t.first, t.room, p.first, patch_length, lay(&piece_lot, "piece", 5, 1, 1), 5, called);
         for (int n = 0; n < 5; n++) allow(all[n], rooms[n]);
         const left *then = &steps[k].then;
         check(answer.outcome == then->outcome && answer.taken == 0 && sound(&answer), line);
-        check(called->line == then->line && called->ready == then->ready && called->stretches == then->stretches && called->count == then->count &&
-              called->total == state.total, line);
+        muongrabi_fields after = fields_of(called);
+        check(after.line == then->line && after.ready == then->ready && after.stretches == then->stretches && after.count == then->count &&
+              after.total == before.total, line);
         check(holds(i.first, then->image) && holds(h.first, then->stash) && holds(w.first, then->work) && holds(t.first, then->result), line);
-        if (refused) check(is_refused(&answer, 17, 0, 0) && memcmp(called, &state, sizeof state) == 0, line);
-        if (!refused && called->count == 2) {
+        if (refused) check(is_refused(&answer, 17, 0, 0) && has(called, &before), line);
+        if (!refused && after.count == 2) {
             /* The younger ones are as they were. */
             size_t gone = steps[k].names[0] == st ? 0 : steps[k].names[0] == uvw ? 1 : 2;
-            memmove(state.hashes + 20 * gone, state.hashes + 20 * (gone + 1), 20 * (2 - gone));
-            for (size_t n = gone; n < 2; n++) state.sizes[n] = state.sizes[n + 1];
-            check(memcmp(called->hashes, state.hashes, 40) == 0 && memcmp(called->sizes, state.sizes, 2 * sizeof(size_t)) == 0, line);
+            memmove(before.hashes + 20 * gone, before.hashes + 20 * (gone + 1), 20 * (2 - gone));
+            for (size_t n = gone; n < 2; n++) before.sizes[n] = before.sizes[n + 1];
+            check(memcmp(after.hashes, before.hashes, 40) == 0 && memcmp(after.sizes, before.sizes, 2 * sizeof(size_t)) == 0, line);
         }
     }
 
     /* 17: a stash of no blocks, at each place, at a line that does not look at it. Past the count there may be one. */
     for (size_t k = 0; k < 4; k++) {
         size_t length = (size_t)snprintf(text, sizeof text, "3\n0\n4\n9\nerase 2,0,1\n");
-        muongrabi_state state;
-        memset(&state, 0, sizeof state);
-        state.at = 8;
-        state.line = 5;
-        state.count = 3;
+        muongrabi_fields before;
+        memset(&before, 0, sizeof before);
+        before.at = 8;
+        before.line = 5;
+        before.count = 3;
         for (size_t n = 0; n < 3; n++) {
-            memset(state.hashes + 20 * n, (int)n, 20);
-            state.sizes[n] = n == k ? 0 : 2;
+            memset(before.hashes + 20 * n, (int)n, 20);
+            before.sizes[n] = n == k ? 0 : 2;
         }
-        state.lengths = (muongrabi_lengths){length, i.room, h.room, w.room, t.room, patch_length};
-        muongrabi_state *called = lay_state(state, k % 2);
+        before.lengths = (muongrabi_lengths){length, i.room, h.room, w.room, t.room, patch_length};
+        muongrabi_state *called = lay_fields(&before, k % 2);
         fill(i.first, "A");
         muongrabi_answer answer = muongrabi_call(lay(&list_lot, text, length, k % 2, 1), length, i.first, i.room, h.first, h.room, w.first, w.room,
                                                  t.first, t.room, p.first, patch_length, NULL, 0, called);
-        if (k < 3) check(is_refused(&answer, 17, 0, 0) && memcmp(called, &state, sizeof state) == 0 && holds(i.first, "A"), "a stash of no blocks");
+        if (k < 3) check(is_refused(&answer, 17, 0, 0) && has(called, &before) && holds(i.first, "A"), "a stash of no blocks");
         else check(answer.outcome == MUONGRABI_DONE && holds(i.first, "0"), "no stash of no blocks");
     }
 
     /* A ready mark at the text's end. */
-    muongrabi_state state = muongrabi_open((const uint8_t *)"3\n0\n0\n0\n", 8, 0, 0, 0, 0, 0);
-    state.ready = 1;
+    muongrabi_state state;
+    muongrabi_open((const uint8_t *)"3\n0\n0\n0\n", 8, 0, 0, 0, 0, 0, &state);
+    muongrabi_fields fields = fields_of(&state);
+    fields.ready = 1;
+    state = state_of(&fields);
     muongrabi_answer answer = muongrabi_call((const uint8_t *)"3\n0\n0\n0\n", 8, NULL, 0, NULL, 0, NULL, 0, NULL, 0, NULL, 0, NULL, 0, &state);
-    check(is_refused(&answer, 17, 0, 0) && state.ready == 1, "a ready mark at the end");
+    check(is_refused(&answer, 17, 0, 0) && has(&state, &fields), "a ready mark at the end");
 }
 
-static void put_form_number(uint8_t *form, size_t *at, size_t number)
-{
-    for (int k = 0; k < 8; k++, number >>= 8) form[(*at)++] = (uint8_t)number;
-}
-
-/* The saved form as docs/SAVED-FORM.md has it. */
-static void form_of(const muongrabi_state *state, uint8_t form[MUONGRABI_SAVED])
-{
-    const muongrabi_refusal *refusal = &state->refusal;
-    const muongrabi_lengths *lengths = &state->lengths;
-    size_t progress[] = {state->count, state->line, state->at, state->into, state->total, state->ready, state->stretches};
-    size_t refused[] = {refusal->number, refusal->line, refusal->byte};
-    size_t opened[] = {lengths->list, lengths->image, lengths->stash, lengths->work, lengths->result, lengths->patch};
-    const struct {
-        char mark[3];
-        const size_t *numbers;
-        size_t count;
-    } records[] = {{"SB", state->sizes, MUONGRABI_MOST_STASHES}, {"SP", progress, 7}, {"SR", refused, 3}, {"SL", opened, 6}};
-    memcpy(form, "SH", 2);
-    memcpy(form + 2, state->hashes, sizeof state->hashes);
-    size_t at = 2 + sizeof state->hashes;
-    for (size_t k = 0; k < 4; k++) {
-        form[at++] = (uint8_t)records[k].mark[0];
-        form[at++] = (uint8_t)records[k].mark[1];
-        for (size_t j = 0; j < records[k].count; j++) put_form_number(form, &at, records[k].numbers[j]);
-    }
-    check(at == MUONGRABI_SAVED, "the length of a saved form");
-}
+static const size_t marks[] = {0, 5122, 7172, 7230, 7256};
 
 static int in_a_mark(size_t at)
 {
-    static const size_t marks[] = {0, 5122, 7172, 7230, 7256};
     for (size_t k = 0; k < sizeof marks / sizeof *marks; k++)
         if (at == marks[k] || at == marks[k] + 1) return 1;
     return 0;
 }
 
-/* 20, with no state. */
-static int is_none(const muongrabi_restored *restored)
+/* Fields where the others lie. */
+static muongrabi_fields *lay_open(const muongrabi_fields *fields, int behind)
 {
-    static const muongrabi_state zero;
-    return restored->number == MUONGRABI_REFUSAL_NO_SAVED_FORM && memcmp(&restored->state, &zero, sizeof zero) == 0;
+    return (muongrabi_fields *)(void *)lay(&fields_lot, fields, sizeof *fields, behind, 0);
 }
 
-/* Saved forms of any states, possible or not, against the pages; and bytes that are none. */
+/* The bytes give 20, and the fields stay, whatever they are. */
+static int is_none(const uint8_t *bytes, size_t length)
+{
+    muongrabi_fields before;
+    int good = 1;
+    for (int behind = 0; behind < 2; behind++) {
+        memset(&before, behind ? 0x5a : 0xff, sizeof before);
+        muongrabi_fields *fields = lay_open(&before, behind);
+        good &= muongrabi_restore(bytes, length, fields) == MUONGRABI_REFUSAL_NO_SAVED_FORM && memcmp(fields, &before, sizeof before) == 0;
+    }
+    return good;
+}
+
+/* States of any fields, possible or not, against the pages; and bytes that are none. */
 static void saved_forms(void)
 {
-    static uint8_t form[MUONGRABI_SAVED], expected[MUONGRABI_SAVED], longer[MUONGRABI_SAVED + 100];
-    muongrabi_state state;
+    static uint8_t expected[MUONGRABI_SAVED], longer[MUONGRABI_SAVED + 100];
+    muongrabi_fields fields, other;
     unsigned dice = 7;
+    memset(&other, 0xa5, sizeof other);
     for (int k = 0; k < 64; k++) {
         /* All of one byte, each number a border, or any bytes. */
-        size_t numbers[sizeof state / sizeof(size_t)];
+        size_t numbers[sizeof fields / sizeof(size_t)];
         static const size_t borders[] = {0, 1, 255, 256, 257, 300, SIZE_MAX, SIZE_MAX - 1, (size_t)1 << 63, (size_t)1 << 32, 20};
         for (size_t j = 0; j < sizeof numbers / sizeof *numbers; j++) {
             dice = dice * 1103515245u + 12345u;
             numbers[j] = k == 0 ? 0 : k == 1 ? SIZE_MAX : k % 2 ? borders[(dice >> 16) % 11] : (size_t)dice * 0x9e3779b97f4a7c15u;
         }
-        memcpy(&state, numbers, sizeof state);
-        const muongrabi_state *from = lay_state(state, k % 2);
+        memcpy(&fields, numbers, sizeof fields);
+        const muongrabi_fields *from = lay_open(&fields, k % 2);
+        mprotect(fields_lot.first, fields_lot.room, PROT_READ);
+        muongrabi_state *state = lay_no_state(k / 2 % 2);
+        muongrabi_save(from, state);
+        form_of(&fields, expected);
+        check(memcmp(state->bytes, expected, sizeof expected) == 0, "a saved form");
         mprotect(state_lot.first, state_lot.room, PROT_READ);
-        memset(form, 0xa5, sizeof form);
-        uint8_t *out = lay(&form_lot, form, sizeof form, k / 2 % 2, 0);
-        muongrabi_save(from, out);
-        form_of(&state, expected);
-        check(memcmp(out, expected, sizeof expected) == 0, "a saved form");
-        mprotect(form_lot.first, form_lot.room, PROT_READ);
-        muongrabi_restored restored = muongrabi_restore(out, MUONGRABI_SAVED);
-        check(restored.number == 0 && memcmp(&restored.state, &state, sizeof state) == 0, "a state read back");
+        muongrabi_fields *to = lay_open(&other, k / 4 % 2);
+        check(muongrabi_restore(state->bytes, sizeof state->bytes, to) == 0 && memcmp(to, &fields, sizeof fields) == 0, "a state read back");
     }
 
     /* Each byte altered: 20 in a mark, else the state of which these are the saved form. In a mark, to every other value. */
     int good = 1;
     for (size_t at = 0; at < sizeof expected; at++) {
         for (unsigned change = 1; change < 256; change += in_a_mark(at) ? 1 : 256) {
+            uint8_t form[MUONGRABI_SAVED];
             memcpy(form, expected, sizeof form);
             form[at] ^= (uint8_t)(in_a_mark(at) ? change : 1 + at % 255);
             const uint8_t *bytes = lay(&form_lot, form, sizeof form, (int)(at % 2), 1);
-            muongrabi_restored restored = muongrabi_restore(bytes, sizeof form);
             if (in_a_mark(at)) {
-                good &= is_none(&restored);
+                good &= is_none(bytes, sizeof form);
             } else {
-                uint8_t again[MUONGRABI_SAVED];
-                muongrabi_save(&restored.state, again);
-                good &= restored.number == 0 && memcmp(again, form, sizeof form) == 0;
+                muongrabi_state again;
+                good &= muongrabi_restore(bytes, sizeof form, &fields) == 0;
+                muongrabi_save(&fields, &again);
+                good &= memcmp(again.bytes, form, sizeof form) == 0;
             }
         }
     }
@@ -1098,34 +1184,136 @@ static void saved_forms(void)
     memcpy(longer, expected, sizeof expected);
     for (size_t n = 0; n <= sizeof longer; n += n < 16 || n + 16 > MUONGRABI_SAVED ? 1 : 61) {
         if (n == MUONGRABI_SAVED) continue;
-        muongrabi_restored restored = muongrabi_restore(lay(&form_lot, longer, n, (int)(n % 2), 1), n);
-        good &= is_none(&restored);
+        good &= is_none(lay(&form_lot, longer, n, (int)(n % 2), 1), n);
     }
-    for (size_t n = MUONGRABI_SAVED - 1; n <= MUONGRABI_SAVED + 1; n += 2) {
-        muongrabi_restored restored = muongrabi_restore(lay(&form_lot, longer, n, 1, 1), n);
-        good &= is_none(&restored);
-    }
+    for (size_t n = MUONGRABI_SAVED - 1; n <= MUONGRABI_SAVED + 1; n += 2) good &= is_none(lay(&form_lot, longer, n, 1, 1), n);
     check(good, "bytes of another length");
     lot none = new_lot(0);
-    muongrabi_restored restored = muongrabi_restore(none.first, 0);
-    check(is_none(&restored), "no bytes");
+    check(is_none(none.first, 0), "no bytes");
 
     /* Memory of exactly the lengths that are lent, so that a sanitizer or valgrind sees its ends too. */
     for (size_t n = MUONGRABI_SAVED - 1; n <= MUONGRABI_SAVED + 1; n++) {
-        muongrabi_state *from = malloc(sizeof *from);
-        uint8_t *out = malloc(MUONGRABI_SAVED), *bytes = malloc(n);
-        if (!from || !out || !bytes) exit(2);
-        *from = state;
-        muongrabi_save(from, out);
+        muongrabi_fields *from = malloc(sizeof *from), *to = malloc(sizeof *to);
+        muongrabi_state *state = malloc(sizeof *state);
+        uint8_t *bytes = malloc(n);
+        if (!from || !to || !state || !bytes) exit(2);
+        *from = fields;
+        muongrabi_save(from, state);
         memset(bytes, 0, n);
-        memcpy(bytes, out, n < MUONGRABI_SAVED ? n : MUONGRABI_SAVED);
-        restored = muongrabi_restore(bytes, n);
-        check(n == MUONGRABI_SAVED ? restored.number == 0 && memcmp(&restored.state, &state, sizeof state) == 0 : is_none(&restored),
+        memcpy(bytes, state->bytes, n < MUONGRABI_SAVED ? n : MUONGRABI_SAVED);
+        size_t number = muongrabi_restore(bytes, n, to);
+        check(n == MUONGRABI_SAVED ? number == 0 && memcmp(to, from, sizeof *to) == 0 : number == MUONGRABI_REFUSAL_NO_SAVED_FORM,
               "a saved form in allocated memory");
         free(from);
-        free(out);
+        free(to);
+        free(state);
         free(bytes);
     }
+}
+
+/*
+ * A call over bytes that are no state's: each byte of each mark altered, to every other value, two marks swapped, and no mark at all. Image, areas,
+ * patch data and piece may not be touched then. 20 comes before all else: before a refusal that is held, before 17, and where no list is lent.
+ */
+static void calls_over_no_state(void)
+{
+    static const char *text = "3\n2\n0\n0\nzero 2,0,1\nnew 2,1,2\n";
+    const char *rooms[] = {"ww", "w", "w", "w", "w", "w"}, *closed[] = {"--", "-", "-", "-", "-", "-"};
+    lot i = new_lot(2), h = new_lot(1), w = new_lot(1), t = new_lot(1), p = new_lot(1), d = new_lot(1);
+    const lot *all[] = {&i, &h, &w, &t, &p, &d};
+    const char *letters[] = {"AB", "x", "w", "k", "p", "n"};
+    size_t length = strlen(text);
+    muongrabi_state opened;
+    muongrabi_refusal refusal = muongrabi_open((const uint8_t *)text, length, i.room, h.room, w.room, t.room, p.room, &opened);
+    check(refusal.number == 0, "a list to call without a state");
+    for (int n = 0; n < 6; n++) {
+        fill(all[n]->first, letters[n]);
+        allow(all[n], closed[n]);
+    }
+    /* As it was opened, with a refusal that is held, and with fields that would be 17. */
+    for (int kind = 0; kind < 3; kind++) {
+        muongrabi_fields fields = fields_of(&opened);
+        if (kind == 1) fields.refusal = (muongrabi_refusal){16, 9, 0};
+        if (kind == 2) fields.line = 7;
+        const muongrabi_state good_one = state_of(&fields);
+        for (size_t k = 0; k < 12; k++) {
+            int good = 1;
+            for (unsigned change = 1; change < (k < 10 ? 256u : 2u); change++) {
+                muongrabi_state none = good_one;
+                if (k < 10) none.bytes[marks[k / 2] + k % 2] ^= (uint8_t)change;
+                if (k == 10) memcpy(none.bytes + marks[3], "SL", 2), memcpy(none.bytes + marks[4], "SR", 2);
+                if (k == 11) memset(none.bytes, 0, sizeof none.bytes);
+                muongrabi_state *called = lay_state(&none, (int)(change % 2));
+                const uint8_t *l = change % 3 ? lay(&list_lot, text, length, 1, 1) : NULL;
+                muongrabi_answer answer = muongrabi_call(l, length, i.first, i.room, h.first, h.room, w.first, w.room, t.first, t.room,
+                                                         p.first, p.room, d.first, d.room, called);
+                good &= is_refused(&answer, MUONGRABI_REFUSAL_NO_SAVED_FORM, 0, 0) && same(called, &none);
+            }
+            check(good, "a call over a state with a mark altered");
+        }
+    }
+    for (int n = 0; n < 6; n++) {
+        allow(all[n], rooms[n]);
+        check(holds(all[n]->first, letters[n]), "the areas after calls over no state");
+    }
+    /* With its marks put right the state is as good as before. */
+    muongrabi_state state = opened;
+    state.bytes[marks[2]] ^= 1;
+    for (int again = 0; again < 2; again++) {
+        muongrabi_answer answer = muongrabi_call((const uint8_t *)text, length, i.first, i.room, h.first, h.room, w.first, w.room, t.first, t.room,
+                                                 p.first, p.room, d.first, d.room, &state);
+        if (again == 0) check(is_refused(&answer, 20, 0, 0) && holds(i.first, "AB"), "a mark altered");
+        else check(answer.outcome == MUONGRABI_DONE && answer.taken == BLOCK && holds(i.first, "0n"), "a mark put right");
+        state.bytes[marks[2]] = 'S';
+    }
+}
+
+/* A state is its bytes: handed on to each call at another place, whatever its address can be divided by, a run is the same, call by call. */
+static void states_moved(size_t length)
+{
+    static uint8_t image[8 * BLOCK], data[3 * BLOCK], stash[3 * BLOCK], work[4 * BLOCK], result[2 * BLOCK];
+    static uint8_t rooms[2][64 + sizeof(muongrabi_state) + 64];
+    static muongrabi_state first[100];
+    static muongrabi_answer answers[100];
+    static size_t calls;
+    fill(data, "pqr");
+    for (int moved = 0; moved < 2; moved++) {
+        fill(image, "ABCDEFGH");
+        fill(stash, "xyz");
+        fill(work, "stuv");
+        fill(result, "kl");
+        muongrabi_state *state = (muongrabi_state *)(void *)rooms[0];
+        muongrabi_refusal refusal =
+            muongrabi_open((const uint8_t *)list, length, sizeof image, sizeof stash, sizeof work, sizeof result, patch_length, state);
+        int good = refusal.number == 0;
+        size_t taken = 0, k = 0;
+        muongrabi_answer answer;
+        do {
+            uint8_t *room = rooms[(k + 1) % 2];
+            if (moved) {
+                /* To the other room, a byte further each time. */
+                memset(room, 0xc3, sizeof rooms[0]);
+                state = memcpy(room + 1 + k % 63, state, sizeof *state);
+            }
+            size_t n = sizeof data - taken < 700 ? sizeof data - taken : 700;
+            answer = muongrabi_call((const uint8_t *)list, length, image, sizeof image, stash, sizeof stash, work, sizeof work,
+                                    result, sizeof result, patch, patch_length, data + taken, n, state);
+            taken += answer.taken;
+            if (moved) {
+                for (size_t at = 0; at < sizeof rooms[0]; at++)
+                    if (room + at < state->bytes || room + at >= state->bytes + sizeof state->bytes) good &= room[at] == 0xc3;
+                good &= k < calls && same(state, &first[k]) && memcmp(&answer, &answers[k], sizeof answer) == 0;
+            } else {
+                first[k] = *state;
+                answers[k] = answer;
+            }
+            k++;
+        } while (k < 100 && (answer.outcome == MUONGRABI_STOP || answer.outcome == MUONGRABI_MORE));
+        if (!moved) calls = k;
+        check(good && k == calls && answer.outcome == MUONGRABI_DONE && taken == sizeof data, "a run with its state moved");
+        check(holds(image, "p0HqBr0s") && holds(stash, "HBH") && holds(work, "rHqv") && holds(result, "sl"), "what such a run leaves");
+    }
+    check(calls > 16, "more calls than there are stops");
 }
 
 static uint8_t sparse_file[3 * BLOCK];
@@ -1244,20 +1432,22 @@ static void null_pointers(void)
     static const char *one = "3\n1\n0\n0\nnew 2,0,1\n";
     static uint8_t image[BLOCK], data[BLOCK];
     uint8_t nothing[20], hash[20];
-    check(muongrabi_abi_5() == MUONGRABI_ABI, "the archive is of this header");
+    check(muongrabi_abi_6() == MUONGRABI_ABI, "the archive is of this header");
     muongrabi_digest((const uint8_t *)"", 0, nothing);
     muongrabi_digest(NULL, 0, hash);
     check(memcmp(hash, nothing, 20) == 0, "digest of null");
     muongrabi_digest(NULL, 99, hash);
     check(memcmp(hash, nothing, 20) == 0, "digest of null with a length");
 
-    muongrabi_state state = muongrabi_open(NULL, 0, 0, 0, 0, 0, 0);
-    check(refusal_is(&state.refusal, MUONGRABI_REFUSAL_HEADER_FORM, 1, 0), "a null list");
-    state = muongrabi_open(NULL, 8, 0, 0, 0, 0, 0);
-    check(refusal_is(&state.refusal, MUONGRABI_REFUSAL_HEADER_FORM, 1, 0), "a null list with a length");
+    muongrabi_state state;
+    muongrabi_refusal refusal = muongrabi_open(NULL, 0, 0, 0, 0, 0, 0, &state);
+    check(refusal_is(&refusal, MUONGRABI_REFUSAL_HEADER_FORM, 1, 0), "a null list");
+    muongrabi_refusal (*open)(const uint8_t *, size_t, size_t, size_t, size_t, size_t, size_t, muongrabi_state *) = muongrabi_open;
+    refusal = open(NULL, 8, 0, 0, 0, 0, 0, &state);
+    check(refusal_is(&refusal, MUONGRABI_REFUSAL_HEADER_FORM, 1, 0), "a null list with a length, through a function pointer");
 
     const uint8_t *list = (const uint8_t *)empty;
-    state = muongrabi_open(list, strlen(empty), 0, 0, 0, 0, 0);
+    muongrabi_open(list, strlen(empty), 0, 0, 0, 0, 0, &state);
     muongrabi_answer answer = muongrabi_call(list, strlen(empty), NULL, 0, NULL, 0, NULL, 0, NULL, 0, NULL, 0, NULL, 0, &state);
     check(answer.outcome == MUONGRABI_DONE && answer.taken == 0, "null areas");
     answer = muongrabi_call(NULL, strlen(empty), NULL, 0, NULL, 0, NULL, 0, NULL, 0, NULL, 0, NULL, 0, &state);
@@ -1268,7 +1458,7 @@ static void null_pointers(void)
     check(answer.outcome == MUONGRABI_DONE && answer.taken == 0, "a run over null areas with lengths");
 
     list = (const uint8_t *)one;
-    state = muongrabi_open(list, strlen(one), BLOCK, 0, 0, 0, 0);
+    muongrabi_open(list, strlen(one), BLOCK, 0, 0, 0, 0, &state);
     answer = muongrabi_call(list, strlen(one), NULL, BLOCK, NULL, 0, NULL, 0, NULL, 0, NULL, 0, data, BLOCK, &state);
     check(answer.number == MUONGRABI_REFUSAL_STATE_IMPOSSIBLE && answer.taken == 0, "a null image with a length");
     answer = muongrabi_call(list, strlen(one), image, BLOCK, NULL, 0, NULL, 0, NULL, BLOCK, NULL, 9, NULL, BLOCK, &state);
@@ -1278,11 +1468,11 @@ static void null_pointers(void)
     answer = called(list, strlen(one), image, BLOCK, NULL, 0, NULL, 0, NULL, 0, NULL, 0, data, BLOCK, &state);
     check(answer.outcome == MUONGRABI_DONE && answer.taken == BLOCK, "null through a function pointer");
 
-    muongrabi_restored restored = muongrabi_restore(NULL, 0);
-    check(is_none(&restored), "null restored");
-    muongrabi_restored (*restore)(const uint8_t *, size_t) = muongrabi_restore;
-    restored = restore(NULL, MUONGRABI_SAVED);
-    check(is_none(&restored), "null with a length restored, through a function pointer");
+    check(is_none(NULL, 0), "null restored");
+    check(is_none(NULL, MUONGRABI_SAVED), "null with a length restored");
+    size_t (*restore)(const uint8_t *, size_t, muongrabi_fields *) = muongrabi_restore;
+    muongrabi_fields fields = fields_of(&state);
+    check(restore(NULL, MUONGRABI_SAVED, &fields) == MUONGRABI_REFUSAL_NO_SAVED_FORM && has(&state, &fields), "the same through a function pointer");
 
     make_sparse_file();
     check(muongrabi_sparse_load(NULL, sparse_length, image, BLOCK) == MUONGRABI_REFUSAL_SPARSE_HEADER, "a null sparse file with a length");
@@ -1310,6 +1500,139 @@ static void refusal_texts(void)
     check(strstr(muongrabi_refusal_text(MUONGRABI_REFUSAL_SPARSE_CHECKSUM), "0xCAC4") != NULL, "texts stand at their numbers");
 }
 
+/* From here on these names are the exports' own. */
+#undef muongrabi_open
+#undef muongrabi_call
+#undef muongrabi_run
+#undef muongrabi_save
+#undef muongrabi_restore
+
+/* So many numbers that no answer has, where answers lie. */
+static uint64_t *lay_answer(size_t numbers, int behind)
+{
+    uint64_t none[5];
+    memset(none, 0xa5, sizeof none);
+    return (uint64_t *)(void *)lay(&answer_lot, none, numbers * sizeof *none, behind, 0);
+}
+
+static int answers(const uint64_t *answer, uint64_t outcome, uint64_t number, uint64_t line, uint64_t byte, uint64_t taken)
+{
+    return answer[0] == outcome && answer[1] == number && answer[2] == line && answer[3] == byte && answer[4] == taken;
+}
+
+/* What lies on the other side of an array of this length than the page is as it was. */
+static int beside(const lot *in, size_t length, int behind, uint8_t before)
+{
+    const uint8_t *rest = behind ? in->first : in->first + length;
+    for (size_t k = 0; k < in->room - length; k++)
+        if (rest[k] != before) return 0;
+    return 1;
+}
+
+/*
+ * Each export writes its arrays whole, whatever they held, and not a byte beside them: a page that may not be touched is on one side of each, and bytes
+ * that must stay on the other. With 20 it writes nothing but a call's answer.
+ */
+static void exports(void)
+{
+    static const char *text = "3\n1\n0\n0\nzero 2,0,1\n", *wrong = "3\n1\n0\n0\nzero 2,0,x\n";
+    static uint8_t image[BLOCK];
+    static const size_t no_cuts[1];
+    uint8_t none = 0;
+    size_t length = strlen(text);
+    lot *arrays[] = {&state_lot, &answer_lot, &form_lot, &fields_lot};
+    muongrabi_fields fields;
+    memset(&fields, 0, sizeof fields);
+    fields.at = 8;
+    fields.line = 5;
+    fields.lengths = (muongrabi_lengths){.list = length, .image = BLOCK};
+    const muongrabi_state opened = state_of(&fields);
+    fields.at = length;
+    fields.line = 6;
+    const muongrabi_state ended = state_of(&fields);
+    const uint8_t *good_list = (const uint8_t *)text, *bad_list = (const uint8_t *)wrong;
+    for (int way = 0; way < 4; way++) {
+        int behind = way % 2, answer_behind = way / 2;
+        for (size_t k = 0; k < sizeof arrays / sizeof *arrays; k++) {
+            mprotect(arrays[k]->first, arrays[k]->room, PROT_READ | PROT_WRITE);
+            memset(arrays[k]->first, 0xc3, arrays[k]->room);
+        }
+        muongrabi_state *state = lay_no_state(behind);
+        uint64_t *answer = lay_answer(3, answer_behind);
+        muongrabi_open(good_list, length, BLOCK, 0, 0, 0, 0, state->bytes, answer);
+        check(answer[0] == 0 && answer[1] == 0 && answer[2] == 0 && same(state, &opened), "the opening itself");
+        check(beside(&state_lot, sizeof *state, behind, 0xc3) && beside(&answer_lot, 24, answer_behind, 0xc3), "what lies beside its arrays");
+        state = lay_no_state(behind);
+        answer = lay_answer(3, answer_behind);
+        muongrabi_open(bad_list, length, BLOCK, 0, 0, 0, 0, state->bytes, answer);
+        muongrabi_refusal refusal = {answer[0], answer[1], answer[2]};
+        check(refusal_is(&refusal, 6, 5, 17) && only_refused(state, &refusal), "the opening itself, refused");
+
+        memset(answer_lot.first, 0xc3, answer_lot.room);
+        fill(image, "A");
+        state = lay_state(&opened, behind);
+        answer = lay_answer(5, answer_behind);
+        muongrabi_call(good_list, length, image, BLOCK, &none, 0, &none, 0, &none, 0, &none, 0, &none, 0, state->bytes, answer);
+        check(answers(answer, MUONGRABI_DONE, 0, 0, 0, 0) && same(state, &ended) && holds(image, "0"), "the call itself");
+        check(beside(&state_lot, sizeof *state, behind, 0xc3) && beside(&answer_lot, 40, answer_behind, 0xc3), "what lies beside its arrays");
+        state = lay_state(&opened, behind);
+        answer = lay_answer(5, answer_behind);
+        muongrabi_call(bad_list, length, image, BLOCK, &none, 0, &none, 0, &none, 0, &none, 0, &none, 0, state->bytes, answer);
+        check(answers(answer, MUONGRABI_REFUSED, 6, 5, 17, 0), "the call itself, refused");
+        fill(image, "A");
+        state = lay_no_state(behind);
+        muongrabi_state before = *state;
+        answer = lay_answer(5, answer_behind);
+        muongrabi_call(good_list, length, image, BLOCK, &none, 0, &none, 0, &none, 0, &none, 0, &none, 0, state->bytes, answer);
+        check(answers(answer, MUONGRABI_REFUSED, 20, 0, 0, 0) && same(state, &before) && holds(image, "A"), "the call itself over no state");
+        check(beside(&state_lot, sizeof *state, behind, 0xc3) && beside(&answer_lot, 40, answer_behind, 0xc3), "what lies beside its arrays then");
+
+        answer = lay_answer(5, answer_behind);
+        muongrabi_run(good_list, length, image, BLOCK, &none, 0, &none, 0, &none, 0, &none, 0, &none, 0, no_cuts, 0, state->bytes, answer);
+        check(answers(answer, MUONGRABI_DONE, 0, 0, 0, 0) && same(state, &ended) && holds(image, "0"), "the run itself");
+        check(beside(&state_lot, sizeof *state, behind, 0xc3) && beside(&answer_lot, 40, answer_behind, 0xc3), "what lies beside its arrays");
+        state = lay_no_state(behind);
+        answer = lay_answer(5, answer_behind);
+        muongrabi_run(bad_list, length, image, BLOCK, &none, 0, &none, 0, &none, 0, &none, 0, &none, 0, no_cuts, 0, state->bytes, answer);
+        check(answers(answer, MUONGRABI_REFUSED, 6, 5, 17, 0) && only_refused(state, &refusal), "the run itself, refused");
+
+        /* Each number is another, so that none can be taken for its neighbour. Tables and numbers stand alone. */
+        size_t numbers[16];
+        for (size_t k = 0; k < sizeof fields.hashes; k++) fields.hashes[k] = (uint8_t)(k * 7 + k / 256);
+        for (size_t k = 0; k < MUONGRABI_MOST_STASHES; k++) fields.sizes[k] = 1000 + k;
+        for (size_t k = 0; k < 16; k++) numbers[k] = SIZE_MAX / 17 * (k + 1);
+        fields.count = numbers[0], fields.line = numbers[1], fields.at = numbers[2], fields.into = numbers[3], fields.total = numbers[4];
+        fields.ready = numbers[5], fields.stretches = numbers[6];
+        fields.refusal = (muongrabi_refusal){numbers[7], numbers[8], numbers[9]};
+        fields.lengths = (muongrabi_lengths){numbers[10], numbers[11], numbers[12], numbers[13], numbers[14], numbers[15]};
+        state = lay_no_state(behind);
+        muongrabi_save(lay(&form_lot, fields.hashes, sizeof fields.hashes, behind, 1),
+                       (const size_t *)(const void *)lay(&fields_lot, fields.sizes, sizeof fields.sizes, answer_behind, 1),
+                       (const size_t *)(const void *)lay(&answer_lot, numbers, sizeof numbers, behind, 1), state->bytes);
+        check(has(state, &fields) && beside(&state_lot, sizeof *state, behind, 0xc3), "the saving itself");
+
+        for (int good = 0; good < 2; good++) {
+            static uint8_t other[sizeof fields.hashes];
+            memset(other, 0xa5, sizeof other);
+            for (size_t k = 1; k < 4; k++) {
+                mprotect(arrays[k]->first, arrays[k]->room, PROT_READ | PROT_WRITE);
+                memset(arrays[k]->first, 0xc3, arrays[k]->room);
+            }
+            uint8_t *hashes = lay(&form_lot, other, sizeof fields.hashes, behind, 0);
+            size_t *sizes = (size_t *)(void *)lay(&fields_lot, other, sizeof fields.sizes, answer_behind, 0);
+            size_t *read = (size_t *)(void *)lay(&answer_lot, other, sizeof numbers, behind, 0);
+            state->bytes[marks[4] + 1] = good ? 'L' : 'l';
+            size_t number = muongrabi_restore(state->bytes, sizeof state->bytes, hashes, sizes, read);
+            check(number == (good ? 0u : 20u), "the restoring itself");
+            check(memcmp(hashes, good ? fields.hashes : other, sizeof fields.hashes) == 0, "its hashes");
+            check(good ? memcmp(sizes, fields.sizes, sizeof fields.sizes) == 0 : memcmp(sizes, other, sizeof fields.sizes) == 0, "its sizes");
+            check(good ? memcmp(read, numbers, sizeof numbers) == 0 : memcmp(read, other, sizeof numbers) == 0, "its numbers");
+            check(beside(&form_lot, sizeof fields.hashes, behind, 0xc3) && beside(&fields_lot, sizeof fields.sizes, answer_behind, 0xc3) &&
+                  beside(&answer_lot, sizeof numbers, behind, 0xc3), "what lies beside them");
+        }
+    }
+}
+
 int main(void)
 {
     list_lot = new_lot(2);
@@ -1324,9 +1647,12 @@ int main(void)
     file_lot = new_lot(3);
     state_lot = new_lot(2);
     form_lot = new_lot(3);
+    fields_lot = new_lot(2);
+    answer_lot = new_lot(1);
     digests();
     size_t length = make_list();
     whole_runs(length);
+    states_moved(length);
     beginnings(length);
     patches();
     finished_lines();
@@ -1336,10 +1662,12 @@ int main(void)
     every_stop();
     what_a_step_touches();
     saved_forms();
+    calls_over_no_state();
     sparse_files();
     sparse_files_in_allocated_memory();
     null_pointers();
     refusal_texts();
+    exports();
     printf("%d passed, %d failed\n", passed, failed);
     return failed != 0;
 }

@@ -15,10 +15,10 @@
 
 #define BLOCK MUONGRABI_BLOCK
 #define MOST MUONGRABI_MOST_STASHES
-#define STACK ((size_t)64 << 10)   /* bytes of a thread's whole stack */
+#define STACK ((size_t)128 << 10)   /* bytes of a thread's whole stack; on AArch64 the C library wants as many */
 /* What the header says: of any function, and of a call. */
 #define MOST_TAKEN ((size_t)52 << 10)
-#define MOST_OF_CALL ((size_t)13 << 10)
+#define MOST_OF_CALL ((size_t)20 << 10)
 #define PAINT 0xa7
 
 static int passed, failed;
@@ -86,11 +86,13 @@ static void make_list(void)
 }
 
 static muongrabi_state state;
+static muongrabi_fields fields;
+static muongrabi_refusal refusal;
 static muongrabi_answer answer;
 
 static void open_list(void)
 {
-    state = muongrabi_open((const uint8_t *)list, list_length, sizeof image, sizeof stash, sizeof work, sizeof result, sizeof patch);
+    refusal = muongrabi_open((const uint8_t *)list, list_length, sizeof image, sizeof stash, sizeof work, sizeof result, sizeof patch, &state);
 }
 
 /* Past every stop; the answer's taken is then the sum. */
@@ -112,22 +114,24 @@ static void run_list(void)
                            result, sizeof result, patch, sizeof patch, data, sizeof data, cuts, 3, &state);
 }
 
-static int finished(void)
-{
-    return answer.outcome == MUONGRABI_DONE && answer.taken == sizeof data && state.count == MOST - 1;
-}
-
-static uint8_t form[MUONGRABI_SAVED];
-static muongrabi_restored restored;
-
-static void save_state(void)
-{
-    muongrabi_save(&state, form);
-}
+static size_t restored;
 
 static void restore_state(void)
 {
-    restored = muongrabi_restore(form, sizeof form);
+    restored = muongrabi_restore(state.bytes, sizeof state.bytes, &fields);
+}
+
+static int finished(void)
+{
+    restore_state();
+    return answer.outcome == MUONGRABI_DONE && answer.taken == sizeof data && restored == 0 && fields.count == MOST - 1;
+}
+
+static muongrabi_state again;
+
+static void save_state(void)
+{
+    muongrabi_save(&fields, &again);
 }
 
 static void hash_bytes(void)
@@ -182,13 +186,12 @@ int main(void)
 {
     make_list();
     for (size_t k = 0; k < sizeof data; k++) data[k] = (uint8_t)k;
-    check(taken("opening", open_list) <= MOST_TAKEN && state.refusal.number == 0, "an opening");
+    check(taken("opening", open_list) <= MOST_TAKEN && refusal.number == 0, "an opening");
     check(taken("call", call_list) <= MOST_OF_CALL && finished(), "a call");
     for (size_t k = 0; k < sizeof image; k++) image[k] = (uint8_t)(k / BLOCK + k % 251);
     check(taken("run", run_list) <= MOST_TAKEN && finished(), "a run");
-    check(taken("saving", save_state) <= MOST_TAKEN, "saving a state");
-    check(taken("restoring", restore_state) <= MOST_TAKEN && restored.number == 0 && memcmp(&restored.state, &state, sizeof state) == 0,
-          "restoring a state");
+    check(taken("restoring", restore_state) <= MOST_TAKEN && restored == 0, "restoring a state");
+    check(taken("saving", save_state) <= MOST_TAKEN && memcmp(&again, &state, sizeof state) == 0, "saving it again");
     check(taken("digest", hash_bytes) <= MOST_TAKEN, "a digest");
     check(taken("sparse file", load_file) <= MOST_TAKEN, "a sparse file's stack");
     printf("%d passed, %d failed\n", passed, failed);

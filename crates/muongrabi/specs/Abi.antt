@@ -2,6 +2,6 @@
 -- Assumes nothing: this is a definition.
 use Prim.Native.Nat.{ℕ}
 
--- another one whenever the layout of a struct or the parameters of an exported function change
+-- another one whenever what an exported function takes or gives changes, the length of an array too
 abbrev pub abi : ℕ
-abi = 5
+abi = 6

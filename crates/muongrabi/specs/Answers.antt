@@ -1,15 +1,21 @@
--- What the exported functions answer: the outcomes of documents 01 and 02 as numbers.
+-- What crosses to C and Rust: a state as its saved form, and the outcomes of documents 01 and 02 as numbers.
 -- Assumes nothing: these are definitions.
 use Prim.Native.Nat.{ℕ}
-use mathlib.Core.List.{List}
-use Rattle.state.specs.States.{stateWith}
-use Rattle.state.specs.declared.Progress.{Progress}
+use mathlib.Core.List.{List, [], _∷_}
+use lib.Dec.{eqb}
+use Rattle.text.specs.Choice.{pick}
+use Rattle.ranges.specs.Ranges.{leastBlocks}
+use Rattle.state.specs.Refusals.{none, noSavedForm}
+use Rattle.state.specs.States.{refusing}
 use Rattle.state.specs.declared.State.{State}
 use Rattle.updater.specs.Areas.{Areas}
-use Rattle.updater.specs.Calls.{Result}
+use Rattle.updater.specs.Calls.{Result, callOf}
+use Rattle.updater.specs.Steps.{configOf}
 use Rattle.updater.specs.declared.Outcome.{Outcome}
 use Rattle.updater.specs.declared.Outcome.the-variants.{Done, More, Stop, Refused}
-use Rattle.muongrabi.specs.declared.Answer.{Answer}
+use Rattle.saved.specs.Restored.{answered, restoredOf}
+use Rattle.saved.specs.Saved.{refusalNumbers, savedOf}
+use Rattle.saved.specs.declared.Restored.{Restored}
 
 -- done is 0, more is 1, refused is 2, a stop is 3
 abbrev pub outcomeNumber : Outcome → ℕ
@@ -39,49 +45,55 @@ refusalByte More = 0
 refusalByte Stop = 0
 refusalByte (Refused refusal) = refusal .byte
 
-abbrev pub answerOf : Progress → Outcome → ℕ → Answer
-answerOf progress outcome taken =
-    record {
-      progress = progress;
-      outcome = outcomeNumber outcome;
-      number = refusalNumber outcome;
-      line = refusalLine outcome;
-      byte = refusalByte outcome;
-      taken = taken;
-    }
+-- outcome; number, line and byte of the refusal; bytes taken
+abbrev pub answerOf : Outcome → ℕ → List ℕ
+answerOf outcome taken =
+    outcomeNumber outcome ∷ refusalNumber outcome ∷ refusalLine outcome ∷ refusalByte outcome ∷ taken ∷ []
 
--- what a caller has after a call: the areas, the state and the numbers
+-- ---- an opening
+
+-- what a caller has after it: the bytes of the state, what they are read back as, and the answer
+pub record Opened : Type 0 where
+  pub state : List ℕ
+  pub read : Restored
+  pub answer : List ℕ
+
+abbrev pub openedAs : List ℕ → List ℕ → Opened
+openedAs state answer = record { state = state; read = restoredOf state; answer = answer }
+
+-- the state's saved form, which is read back as that state; number, line and byte of the refusal that it holds
+abbrev pub openingOf : State → Opened
+openingOf s = record { state = savedOf s; read = answered s; answer = refusalNumbers (s .refusal) }
+
+-- ---- a call
+
+-- what a caller has after it: the areas, the bytes of the state, what they are read back as, and the answer
 pub record Answered : Type 0 where
   pub areas : Areas
-  pub state : State
-  pub outcome : ℕ
-  pub number : ℕ
-  pub line : ℕ
-  pub byte : ℕ
-  pub taken : ℕ
+  pub state : List ℕ
+  pub read : Restored
+  pub answer : List ℕ
 
--- with the tables of hashes and of sizes as the call left them
-abbrev pub answeredOf : Areas → List ℕ → List ℕ → Answer → Answered
-answeredOf areas hashes sizes answer =
-    record {
-      areas = areas;
-      state = stateWith hashes sizes (answer .progress);
-      outcome = answer .outcome;
-      number = answer .number;
-      line = answer .line;
-      byte = answer .byte;
-      taken = answer .taken;
-    }
+abbrev pub answeredAs : Areas → List ℕ → List ℕ → Answered
+answeredAs areas state answer = record { areas = areas; state = state; read = restoredOf state; answer = answer }
 
--- the same for the result of a call, or of an opening and its calls
-abbrev pub answered : Result → Answered
-answered r =
+-- of what a call, or an opening and its calls, came to: the saved form of the state after it, which is read back as that state
+abbrev pub answerTo : Result → Answered
+answerTo r =
     record {
       areas = r .areas;
-      state = r .called .state;
-      outcome = outcomeNumber (r .called .outcome);
-      number = refusalNumber (r .called .outcome);
-      line = refusalLine (r .called .outcome);
-      byte = refusalByte (r .called .outcome);
-      taken = r .called .taken;
+      state = savedOf (r .called .state);
+      read = answered (r .called .state);
+      answer = answerOf (r .called .outcome) (r .called .taken);
     }
+
+-- 20: nothing is changed, and nothing taken
+abbrev pub notSaved : Areas → List ℕ → Answered
+notSaved areas bytes = answeredAs areas bytes (answerOf (Refused (refusing noSavedForm 0)) 0)
+
+-- a call from the state whose saved form the bytes are; 20 where they are no state's
+unfoldable pub calledOver : List ℕ → List ℕ → Areas → List ℕ → Answered
+calledOver s piece areas bytes =
+    pick (eqb (restoredOf bytes .number) none)
+    (answerTo (callOf leastBlocks s piece (configOf areas (restoredOf bytes .state))))
+    (notSaved areas bytes)

@@ -1,2 +1,4 @@
 pub mod Abi
 pub mod Answers
+pub mod Fields
+pub mod Sequence

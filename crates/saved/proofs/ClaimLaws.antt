@@ -19,10 +19,10 @@ use Rattle.state.specs.declared.State.{State}
 use Rattle.saved.specs.Layout.{markBytes, letterS, letterH, letterB, letterP, letterR, letterL, wordBytes, wordBound}
 use Rattle.saved.specs.Layout.{progressCount, refusalCount, lengthCount}
 use Rattle.saved.specs.Layout.{hashesAt, sizesAt, progressAt, refusalAt, lengthsAt, savedBytes}
-use Rattle.saved.specs.Saved.{wordsOf, recordOf, progressNumbers, refusalNumbers, lengthNumbers, Typed}
+use Rattle.saved.specs.Saved.{wordsOf, recordOf, progressNumbers, refusalNumbers, lengthNumbers, Typed, FormOf}
 use Rattle.saved.specs.Saved.{hashesRecord, sizesRecord, progressRecord, refusalRecord, lengthsRecord, savedOf}
 use Rattle.saved.specs.Restored.{hasMark, isSaved, numbersAt, stateIn, noState, answered, refused, restoredOf}
-use Rattle.saved.specs.Claim.{FormOf, SavedClaim}
+use Rattle.saved.specs.Claim.{SavedClaim}
 use Rattle.saved.proofs.WordLaws.{length-words, numbers-words, words-numbers, below-part}
 use Rattle.saved.proofs.ReadLaws.{saved-length}
 

@@ -87,16 +87,17 @@ five-put a b c d e i j k l n p q r s t ep eq er es et h =
     sym w ∙ et ∙ rw (es, er, eq, ep) (simp append-assoc)
 
 module _ (x : State) (zeros a b c d e : List ℕ) where
-  pub saved-put : length (x .sizes) ≡ mostStashes → length e ≡ savedBytes →
-      take (hashesAt + (markBytes + tableBytes)) a ≡ take hashesAt zeros ++ hashesRecord x →
+  pub saved-put : length (x .hashes) ≡ tableBytes → length (x .sizes) ≡ mostStashes → length e ≡ savedBytes →
+      take (hashesAt + (markBytes + length (x .hashes))) a ≡ take hashesAt zeros ++ hashesRecord x →
       take (sizesAt + (markBytes + wordBytes * length (x .sizes))) b ≡ take sizesAt a ++ sizesRecord x →
       take refusalAt c ≡ take progressAt b ++ progressRecord x →
       take lengthsAt d ≡ take refusalAt c ++ refusalRecord x →
       take savedBytes e ≡ take lengthsAt d ++ lengthsRecord x →
-      e ≡ savedOf x
+      savedOf x ≡ e
   unfolding savedOf
-  saved-put n l h₁ h₂ h₃ h₄ h₅ =
+  saved-put m n l h₁ h₂ h₃ h₄ h₅ =
+      let j : take sizesAt a ≡ take hashesAt zeros ++ hashesRecord x = rw m at h₁ in
       let k : take progressAt b ≡ take sizesAt a ++ sizesRecord x = rw n at h₂ in
-      five-put a b c d e sizesAt progressAt refusalAt lengthsAt savedBytes
+      sym (five-put a b c d e sizesAt progressAt refusalAt lengthsAt savedBytes
       (hashesRecord x) (sizesRecord x) (progressRecord x) (refusalRecord x) (lengthsRecord x)
-      h₁ k h₃ h₄ h₅ l
+      j k h₃ h₄ h₅ l)

@@ -1,17 +1,20 @@
 -- Reading a table, and a row of numbers one by one: what is read, and what is still to come, make up the whole.
 -- Assumes nothing.
-use mathlib.Core.Path.{_≡_, sym, _∙_}
-use mathlib.Core.Bool.{true}
+use mathlib.Core.Path.{_≡_, refl, sym, _∙_}
+use mathlib.Core.Bool.{Bool, true, false}
 use mathlib.Core.List.{List, [], _∷_, _++_, append-assoc, append-nil}
 use Prim.Native.Nat.{ℕ, suc, _+_, _-_, _≤_, _<_}
 use native.Mathlib.Omega.{arith}
 use borrow.Author.Tests.{eqb-true}
 use lib.ListN.{length, take, drop, set, drop-of-length-le}
 use lib.Seq.{take-all}
+use Rattle.text.specs.Choice.{pick}
 use Rattle.text.proofs.ChoiceLaws.{both-true}
 use Rattle.little_endian.specs.LittleEndian.{eightAt}
+use Rattle.state.specs.Refusals.{none, noSavedForm}
+use Rattle.state.specs.States.{stateWith}
 use Rattle.saved.specs.Layout.{wordBytes, savedBytes}
-use Rattle.saved.specs.Restored.{isSaved, numbersAt}
+use Rattle.saved.specs.Restored.{isSaved, numbersAt, stateIn, answered, refused, restoredOf, noProgress, restoredOver}
 use Rattle.copy.specs.Over.{front}
 use Rattle.copy.proofs.OverLaws.{front-fits}
 use Rattle.saved.proofs.PutLaws.{put-one}
@@ -43,3 +46,40 @@ front-all area bytes h =
 pub saved-length : (b : List ℕ) → isSaved b ≡ true → length b ≡ savedBytes
 unfolding isSaved
 saved-length b h = eqb-true _ _ (both-true _ _ h .0)
+
+-- ---- over tables that are lent
+
+module _ (hashes sizes b : List ℕ) where
+  -- the number does not depend on the tables
+  pub over-number : restoredOver hashes sizes b .number ≡ restoredOf b .number
+  unfolding restoredOver restoredOf
+  over-number = go (isSaved b)
+    where
+      go : (t : Bool) →
+          pick t (answered (stateIn b)) (record { number = noSavedForm; state = stateWith hashes sizes noProgress }) .number
+          ≡ pick t (answered (stateIn b)) refused .number
+      go true = refl
+      go false = refl
+
+  -- what is read back does not either
+  pub over-read : restoredOf b .number ≡ none → restoredOver hashes sizes b ≡ restoredOf b
+  unfolding restoredOver restoredOf
+  over-read e = go (isSaved b) e
+    where
+      go : (t : Bool) → pick t (answered (stateIn b)) refused .number ≡ none →
+          pick t (answered (stateIn b)) (record { number = noSavedForm; state = stateWith hashes sizes noProgress })
+          ≡ pick t (answered (stateIn b)) refused
+      go true e = refl
+      go false e = absurd (omega arith)
+
+  -- else the tables stay
+  pub over-stays : (restoredOf b .number ≡ none → ⊥) →
+      restoredOver hashes sizes b ≡ record { number = noSavedForm; state = stateWith hashes sizes noProgress }
+  unfolding restoredOver restoredOf
+  over-stays n = go (isSaved b) n
+    where
+      go : (t : Bool) → (pick t (answered (stateIn b)) refused .number ≡ none → ⊥) →
+          pick t (answered (stateIn b)) (record { number = noSavedForm; state = stateWith hashes sizes noProgress })
+          ≡ record { number = noSavedForm; state = stateWith hashes sizes noProgress }
+      go true n = absurd (n refl)
+      go false n = refl

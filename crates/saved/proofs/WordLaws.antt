@@ -15,6 +15,12 @@ use Rattle.saved.specs.Layout.{wordBytes, wordBound}
 use Rattle.saved.specs.Saved.{bytesOf, wordsOf}
 use Rattle.saved.specs.Restored.{numbersAt}
 
+-- numbers that are below a bound wherever one looks
+pub below-each : (n : ℕ) (xs : List ℕ) → ((i : ℕ) → getD xs i 0 < n) → AllBelow n xs
+unfolding AllBelow
+below-each n [] h = tt
+below-each n (x ∷ xs) h = (h 0, below-each n xs (λ i. h (suc i)))
+
 -- ---- a number and its bytes
 
 -- the number of some bytes, the lowest first

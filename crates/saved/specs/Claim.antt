@@ -10,13 +10,8 @@ use Rattle.state.specs.Limits.{mostStashes, tableBytes}
 use Rattle.state.specs.Refusals.{none, noSavedForm}
 use Rattle.state.specs.declared.State.{State}
 use Rattle.saved.specs.Layout.{wordBound, savedBytes}
-use Rattle.saved.specs.Saved.{progressNumbers, refusalNumbers, lengthNumbers, savedOf, Typed}
+use Rattle.saved.specs.Saved.{progressNumbers, refusalNumbers, lengthNumbers, savedOf, Typed, FormOf}
 use Rattle.saved.specs.Restored.{answered, noState, restoredOf}
-
--- the bytes are the saved form of this state, and the state is one that its type can hold
-pub record FormOf (b : List ℕ) (s : State) : Type 0 where
-  pub typed : Typed s
-  pub form : savedOf s ≡ b
 
 pub record SavedClaim : Type 0 where
   -- no state is left out: tables of their lengths, bytes below 256 and numbers below 2^64 are all that is asked

@@ -9,13 +9,15 @@ use Rattle.text.specs.Choice.{pick, both}
 use Rattle.little_endian.specs.LittleEndian.{eightAt}
 use Rattle.state.specs.Limits.{tableBytes, mostStashes}
 use Rattle.state.specs.Refusals.{none, noSavedForm}
-use Rattle.state.specs.States.{noRefusal, stateAt}
+use Rattle.state.specs.States.{noRefusal, stateAt, stateWith}
 use Rattle.state.specs.declared.Lengths.{Lengths}
+use Rattle.state.specs.declared.Progress.{Progress}
 use Rattle.state.specs.declared.Refusal.{Refusal}
 use Rattle.state.specs.declared.State.{State}
 use Rattle.saved.specs.Layout.{markBytes, letterS, letterH, letterB, letterP, letterR, letterL, wordBytes}
 use Rattle.saved.specs.Layout.{hashesAt, sizesAt, progressAt, refusalAt, lengthsAt, savedBytes}
 use Rattle.saved.specs.declared.Restored.{Restored}
+use Rattle.saved.specs.declared.RestoredProgress.{RestoredProgress}
 
 -- the record at a position has the mark of this letter
 unfoldable pub hasMark : List ℕ → ℕ → ℕ → Bool
@@ -54,12 +56,18 @@ lengthsIn b =
       patch = numberIn b lengthsAt 5;
     }
 
--- the state of a saved form
-unfoldable pub stateIn : List ℕ → State
-stateIn b =
+-- the table of hashes
+abbrev pub hashesIn : List ℕ → List ℕ
+hashesIn b = take tableBytes (drop (hashesAt + markBytes) b)
+
+-- the sizes
+abbrev pub sizesIn : List ℕ → List ℕ
+sizesIn b = numbersAt b (sizesAt + markBytes) mostStashes
+
+-- what a state has besides these tables
+abbrev pub progressIn : List ℕ → Progress
+progressIn b =
     record {
-      hashes = take tableBytes (drop (hashesAt + markBytes) b);
-      sizes = numbersAt b (sizesAt + markBytes) mostStashes;
       count = numberIn b progressAt 0;
       line = numberIn b progressAt 1;
       at = numberIn b progressAt 2;
@@ -70,6 +78,10 @@ stateIn b =
       refusal = refusalIn b;
       lengths = lengthsIn b;
     }
+
+-- the state of a saved form
+unfoldable pub stateIn : List ℕ → State
+stateIn b = stateWith (hashesIn b) (sizesIn b) (progressIn b)
 
 -- no state: all of it zero
 abbrev pub noState : State
@@ -84,3 +96,28 @@ refused = record { number = noSavedForm; state = noState }
 -- what bytes are read back as
 unfoldable pub restoredOf : List ℕ → Restored
 restoredOf b = pick (isSaved b) (answered (stateIn b)) refused
+
+-- ---- the same over tables that are lent
+
+abbrev pub noProgress : Progress
+noProgress =
+    record {
+      count = 0;
+      line = 0;
+      at = 0;
+      into = 0;
+      total = 0;
+      ready = 0;
+      stretches = 0;
+      refusal = noRefusal;
+      lengths = record { list = 0; image = 0; stash = 0; work = 0; result = 0; patch = 0 };
+    }
+
+-- what is given back, with the tables as they were left
+abbrev pub restoredWith : List ℕ → List ℕ → RestoredProgress → Restored
+restoredWith hashes sizes r = record { number = r .number; state = stateWith hashes sizes (r .progress) }
+
+-- with 20 the tables stay
+unfoldable pub restoredOver : List ℕ → List ℕ → List ℕ → Restored
+restoredOver hashes sizes b =
+    pick (isSaved b) (answered (stateIn b)) (record { number = noSavedForm; state = stateWith hashes sizes noProgress })

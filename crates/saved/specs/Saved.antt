@@ -64,3 +64,8 @@ pub record Typed (s : State) : Type 0 where
   pub progress : AllBelow wordBound (progressNumbers s)
   pub refusal : AllBelow wordBound (refusalNumbers (s .refusal))
   pub lengths : AllBelow wordBound (lengthNumbers (s .lengths))
+
+-- the bytes are the saved form of this state, and the state is one that its type can hold
+pub record FormOf (b : List ℕ) (s : State) : Type 0 where
+  pub typed : Typed s
+  pub form : savedOf s ≡ b

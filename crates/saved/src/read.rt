@@ -3,7 +3,7 @@ ghost use mathlib.Core.Path.{_≡_};
 ghost use Prim.Native.Nat.{_+_, _*_, _≤_};
 ghost use lib.ListN.{length};
 ghost use Rattle.saved.specs.Layout.{markBytes, wordBytes, savedBytes};
-ghost use Rattle.saved.specs.Restored.{hasMark, isSaved, numbersAt, numberIn, refusalIn, lengthsIn, stateIn};
+ghost use Rattle.saved.specs.Restored.{hasMark, isSaved, numbersAt, numberIn, refusalIn, lengthsIn, hashesIn, sizesIn, progressIn};
 use crate::SAVED_BYTES;
 use crate::layout::HASHES_AT;
 use crate::layout::LENGTHS_AT;
@@ -21,8 +21,8 @@ use crate::layout::WORD_BYTES;
 use copy::copy_in;
 use little_endian::read_u64;
 use state::Lengths;
+use state::Progress;
 use state::Refusal;
-use state::State;
 use state::limits::MOST_STASHES;
 use state::limits::TABLE_BYTES;
 
@@ -102,18 +102,25 @@ fn lengths_in(bytes: &[u8]) -> Lengths
     }
 }
 
-// The state of bytes that are a saved form.
-pub(crate) fn state_in(bytes: &[u8]) -> State
+// The tables of bytes that are a saved form.
+pub(crate) fn tables_in(
+    bytes: &[u8],
+    hashes: &mut [u8; TABLE_BYTES],
+    sizes: &mut [usize; MOST_STASHES],
+)
     requires { ⌜ length (now bytes) ≡ savedBytes ⌝ }
-    ensures { λ r. ⌜ r ≡ stateIn (now (bytes .entry)) ⌝ }
+    ensures { λ _. ⌜ now (hashes .exit) ≡ hashesIn (now (bytes .entry)) ⌝ }
+    ensures { λ _. ⌜ now (sizes .exit) ≡ sizesIn (now (bytes .entry)) ⌝ }
 {
-    let mut hashes = [0u8; TABLE_BYTES];
-    copy_in(&mut hashes, &bytes[HASHES_AT + MARK_BYTES..SIZES_AT]);
-    let mut sizes = [0usize; MOST_STASHES];
-    read_numbers(&mut sizes, bytes, SIZES_AT + MARK_BYTES);
-    State {
-        hashes,
-        sizes,
+    copy_in(hashes, &bytes[HASHES_AT + MARK_BYTES..SIZES_AT]);
+    read_numbers(sizes, bytes, SIZES_AT + MARK_BYTES);
+}
+
+// What it has besides them.
+pub(crate) fn progress_in(bytes: &[u8]) -> Progress
+    ensures { λ r. ⌜ r ≡ progressIn (now (bytes .entry)) ⌝ }
+{
+    Progress {
         count: number_in(bytes, PROGRESS_AT, 0),
         line: number_in(bytes, PROGRESS_AT, 1),
         at: number_in(bytes, PROGRESS_AT, 2),

@@ -3,15 +3,14 @@ ghost use mathlib.Core.Path.{_≡_};
 ghost use mathlib.Core.List.{_++_, []};
 ghost use Prim.Native.Nat.{_+_, _*_, _≤_};
 ghost use lib.ListN.{length, take};
-ghost use Rattle.state.specs.Limits.{tableBytes};
-ghost use Rattle.saved.specs.Layout.{markBytes, letterH, wordBytes};
+ghost use Rattle.text.specs.Below.{AllBelow};
+ghost use Rattle.saved.specs.Layout.{markBytes, letterH, wordBytes, wordBound};
 ghost use Rattle.saved.specs.Saved.{bytesOf, wordsOf, recordOf};
 use crate::layout::LETTER_H;
 use crate::layout::LETTER_S;
 use crate::layout::MARK_BYTES;
 use crate::layout::WORD_BYTES;
 use copy::copy_in;
-use state::limits::TABLE_BYTES;
 
 fn put_mark(to: &mut [u8], at: usize, letter: u8)
     requires { ⌜ at + markBytes ≤ length (now to) ⌝ }
@@ -35,9 +34,11 @@ fn put_word(to: &mut [u8], at: usize, x: usize)
 }
 
 // The table of hashes after its mark.
-pub(crate) fn put_hashes(to: &mut [u8], at: usize, hashes: &[u8; TABLE_BYTES])
-    requires { ⌜ at + (markBytes + tableBytes) ≤ length (now to) ⌝ }
-    ensures { λ _. ⌜ take (at + (markBytes + tableBytes)) (now (to .exit)) ≡ take at (now (to .entry)) ++ recordOf letterH (now (hashes .entry)) ⌝ }
+pub(crate) fn put_hashes(to: &mut [u8], at: usize, hashes: &[u8])
+    requires { ⌜ at + (markBytes + length (now hashes)) ≤ length (now to) ⌝ }
+    ensures { λ _. ⌜ take (at + (markBytes + length (now (hashes .entry)))) (now (to .exit))
+        ≡ take at (now (to .entry)) ++ recordOf letterH (now (hashes .entry)) ⌝ }
+    ensures { λ _. ⌜ AllBelow 256 (now (hashes .entry)) ⌝ }
 {
     put_mark(to, at, LETTER_H);
     let body = at + MARK_BYTES;
@@ -49,6 +50,7 @@ pub(crate) fn put_numbers(to: &mut [u8], at: usize, letter: u8, from: &[usize])
     requires { ⌜ at + (markBytes + wordBytes * length (now from)) ≤ length (now to) ⌝ }
     ensures { λ _. ⌜ take (at + (markBytes + wordBytes * length (now (from .entry)))) (now (to .exit))
         ≡ take at (now (to .entry)) ++ recordOf letter (wordsOf (now (from .entry))) ⌝ }
+    ensures { λ _. ⌜ AllBelow wordBound (now (from .entry)) ⌝ }
 {
     put_mark(to, at, letter);
     let mut k = at + MARK_BYTES;

@@ -45,6 +45,9 @@ pub const NINES: [&str; 3] = ["N over the work area", "S over the work area", "a
 /// What is called over memory that is closed where it has no business.
 pub const CLOSED: [&str; 5] = ["finished lines", "ready moves", "ready bsdiffs", "ready stashes", "stretches"];
 
+/// What is done as it crosses too: a state as its saved form, an answer as numbers.
+pub const CROSSINGS: [&str; 3] = ["openings", "calls", "runs"];
+
 /// Whose hash differs.
 pub const SIXTEENS: [&str; 3] = ["a move or a stash", "a patch's source", "a patch's result"];
 
@@ -116,6 +119,10 @@ pub struct Coverage {
     pub thrice: u64,
     /// Calls over closed memory.
     pub closed: [u64; CLOSED.len()],
+    /// What was done as it crosses too.
+    pub crossings: [u64; CROSSINGS.len()],
+    /// Calls over a state with a byte of a mark changed.
+    pub unmarked: u64,
     pub lines: [u64; LINES.len()],
     pub kinds: [u64; KINDS.len()],
     /// Openings and calls with many stashes and long sources.
@@ -169,6 +176,7 @@ impl Coverage {
         let _ = writeln!(out, "stashes of no blocks: {}", counted(&NO_BLOCKS, &self.no_blocks));
         let _ = writeln!(out, "patches that ran: {}", counted(&PATCHES, &self.patches));
         let _ = writeln!(out, "over closed memory: {}", counted(&CLOSED, &self.closed));
+        let _ = writeln!(out, "as they cross: {}; over a damaged mark {}", counted(&CROSSINGS, &self.crossings), self.unmarked);
         let Coverage { sequences, runs, digests, thrice, .. } = self;
         let _ = writeln!(out, "calls by the model too {thrice}, sequences held to it {sequences}, runs over cuts {runs}, digests {digests}");
         out
@@ -201,6 +209,7 @@ impl Coverage {
             kinds.iter().zip(counts).for_each(|(kind, n)| note(format!("{name}: {kind}"), *n));
         }
         CLOSED.iter().zip(self.closed).for_each(|(name, n)| note(format!("over closed memory: {name}"), n));
+        CROSSINGS.iter().zip(self.crossings).for_each(|(name, n)| note(format!("as they cross: {name}"), n));
         for (name, n) in [
             ("done", self.done),
             ("more", self.more),
@@ -213,6 +222,7 @@ impl Coverage {
             ("a run over cuts", self.runs),
             ("a digest", self.digests),
             ("a call by the model too", self.thrice),
+            ("a call over a damaged mark", self.unmarked),
         ] {
             note(name.to_string(), n);
         }

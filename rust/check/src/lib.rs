@@ -4,14 +4,20 @@ pub mod compare;
 pub mod coverage;
 pub mod cuts;
 pub mod generate;
-mod guard;
+pub mod guard;
 mod hex;
 pub mod library;
+mod numbers;
+pub mod raw;
 pub mod record;
 
 pub use hex::hex;
 pub use library::Library;
+pub use numbers::{answer_numbers, opening_numbers, NO_SAVED_FORM};
 use reference::{model, plain, saved, Answer, Areas, Hash, Outcome, Rooms, State};
+
+/// A state as it crosses: its saved form.
+pub type Form = [u8; saved::SAVED];
 
 /// One implementation of the rules, on the reference's types.
 pub trait Implementation {
@@ -37,6 +43,26 @@ pub trait Implementation {
     /// The state whose saved form the bytes are, or the number that they are refused with.
     fn restore(&self, bytes: &[u8]) -> Result<State, usize> {
         saved::restore(bytes).ok_or(20)
+    }
+    /// An opening as it crosses: number, line and byte, and the state's saved form over bytes that may hold anything.
+    fn open_form(&self, list: &[u8], rooms: Rooms, form: &mut Form) -> [u64; 3] {
+        let state = self.open(list, rooms);
+        form.copy_from_slice(&saved::save(&state));
+        opening_numbers(&state)
+    }
+    /// A call as it crosses: outcome, number, line, byte and what was taken. The state's saved form is changed where it lies. Over bytes that are none
+    /// it is 20, and changes nothing.
+    fn call_form(&self, list: &[u8], areas: Areas, piece: &[u8], form: &mut Form) -> [u64; 5] {
+        let Some(state) = saved::restore(form) else { return NO_SAVED_FORM };
+        let answer = self.call(list, areas, piece, state);
+        form.copy_from_slice(&saved::save(&answer.state));
+        answer_numbers(&answer)
+    }
+    /// A run as it crosses, over bytes that may hold anything.
+    fn run_form(&self, list: &[u8], areas: Areas, data: &[u8], cuts: &[usize], form: &mut Form) -> [u64; 5] {
+        let answer = self.run(list, areas, data, cuts);
+        form.copy_from_slice(&saved::save(&answer.state));
+        answer_numbers(&answer)
     }
     /// Nothing, or the number that the file is refused with.
     fn load_sparse(&self, file: &[u8], image: &mut [u8]) -> Result<(), usize>;

@@ -1,7 +1,8 @@
-//! The proved library as an implementation. Each call converts its state to the library's form and back, so nothing is timed here.
+//! The proved library as an implementation: through the safe crate, where each call converts its state to the library's form and back, so that nothing
+//! is timed here; and as it crosses, through the exports themselves.
 
 use crate::guard::Guarded;
-use crate::Implementation;
+use crate::{raw, Form, Implementation};
 use muongrabi::{Called, Fields, Stash};
 use reference::{Answer, Areas, Hash, Lengths, Outcome, Refusal, Rooms, State, MOST_STASHES};
 use std::array::from_fn;
@@ -21,7 +22,7 @@ impl Implementation for Library {
         muongrabi::digest(bytes)
     }
 
-    /// Of a refused opening the crate hands out the refusal alone; that its state is zero otherwise is seen through `run`.
+    /// Of a refused opening the crate hands out the refusal alone; that its state is zero otherwise is seen through `open_form`.
     fn open(&self, list: &[u8], rooms: Rooms) -> State {
         match muongrabi::open(list, lengths_of(rooms)) {
             Ok(state) => state_of(&state),
@@ -49,6 +50,18 @@ impl Implementation for Library {
 
     fn restore(&self, bytes: &[u8]) -> Result<State, usize> {
         muongrabi::State::restore(bytes).map(|state| state_of(&state)).map_err(|refusal| refusal.number())
+    }
+
+    fn open_form(&self, list: &[u8], rooms: Rooms, form: &mut Form) -> [u64; 3] {
+        raw::open(list, rooms, form)
+    }
+
+    fn call_form(&self, list: &[u8], areas: Areas, piece: &[u8], form: &mut Form) -> [u64; 5] {
+        raw::call(list, areas, piece, form)
+    }
+
+    fn run_form(&self, list: &[u8], areas: Areas, data: &[u8], cuts: &[usize], form: &mut Form) -> [u64; 5] {
+        raw::run(list, areas, data, cuts, form)
     }
 
     fn load_sparse(&self, file: &[u8], image: &mut [u8]) -> Result<(), usize> {

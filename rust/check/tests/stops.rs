@@ -350,24 +350,6 @@ fn the_total_is_of_all_calls() {
     }
 }
 
-/// A state of which no two bytes are in the same place and the same, save by chance.
-fn full_state(rng: &mut Rng) -> State {
-    let mut next = || rng.next_u64() as usize;
-    State {
-        hashes: std::array::from_fn(|_| next() as u8),
-        sizes: std::array::from_fn(|_| next()),
-        count: next(),
-        line: next(),
-        at: next(),
-        into: next(),
-        refusal: Refusal { number: next(), line: next(), byte: next() },
-        lengths: Lengths { list: next(), image: next(), stash: next(), work: next(), result: next(), patch: next() },
-        total: next() as u64,
-        ready: next(),
-        stretches: next(),
-    }
-}
-
 #[test]
 fn saved_and_read_back() {
     let mut rng = Rng::new(9);

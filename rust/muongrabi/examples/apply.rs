@@ -71,7 +71,7 @@ fn sync_folder(name: &str) -> Result<(), String> {
 fn save(name: &str, state: &State) -> Result<(), String> {
     let fresh = format!("{name}.new");
     let mut file = named(&fresh, File::create(&fresh))?;
-    named(&fresh, file.write_all(&state.save()).and_then(|()| file.sync_all()))?;
+    named(&fresh, file.write_all(state.as_bytes()).and_then(|()| file.sync_all()))?;
     named(&fresh, fs::rename(&fresh, name))?;
     sync_folder(name)
 }

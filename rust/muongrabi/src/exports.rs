@@ -1,116 +1,32 @@
-//! What crosses to the proved library, laid out as in `include/muongrabi.h`. All `unsafe` is here: the functions below are safe, and the
-//! public types hide the structs, so that they can stay when something else crosses.
+//! What crosses to the proved library, as `include/muongrabi.h` declares it: numbers, and bytes and numbers that are lent. No struct crosses, so that
+//! the same declarations serve every processor that the library is built for. All `unsafe` is here: the functions below are safe, and the public
+//! types hide what crosses, so that they can stay when something else does.
 
-use crate::{Areas, MOST_STASHES, SAVED};
-use core::mem::{offset_of, size_of};
+use crate::{Areas, Fields, Lengths, Refusal, Stash, MOST_STASHES, SAVED};
+use core::mem::size_of;
 
-pub const DONE: usize = 0;
-pub const MORE: usize = 1;
-pub const STOP: usize = 3;
+pub const DONE: u64 = 0;
+pub const MORE: u64 = 1;
+pub const STOP: u64 = 3;
 
 /// The table of the stashes' hashes.
 pub const TABLE_BYTES: usize = 20 * MOST_STASHES;
 
-#[repr(C)]
-#[derive(Clone, Copy, PartialEq, Eq)]
-pub struct Refusal {
-    pub number: usize,
-    pub line: usize,
-    pub byte: usize,
-}
+/// The numbers of a state beside its tables.
+pub const NUMBERS: usize = 16;
 
-#[repr(C)]
-#[derive(Clone, Copy, PartialEq, Eq)]
-pub struct Lengths {
-    pub list: usize,
-    pub image: usize,
-    pub stash: usize,
-    pub work: usize,
-    pub result: usize,
-    pub patch: usize,
-}
-
-#[repr(C)]
-#[derive(Clone, Copy, PartialEq, Eq)]
-pub struct Progress {
-    pub count: usize,
-    pub line: usize,
-    pub at: usize,
-    pub into: usize,
-    pub total: usize,
-    pub ready: usize,
-    pub stretches: usize,
-    pub refusal: Refusal,
-    pub lengths: Lengths,
-}
-
-/// It is 7 KB, so that a copy is only made where one is asked for.
-#[repr(C)]
-#[derive(Clone, PartialEq, Eq)]
-pub struct State {
-    pub hashes: [u8; TABLE_BYTES],
-    pub sizes: [usize; MOST_STASHES],
-    pub progress: Progress,
-}
-
-#[repr(C)]
-pub struct Answer {
-    pub progress: Progress,
-    pub outcome: usize,
-    pub number: usize,
-    pub line: usize,
-    pub byte: usize,
-    pub taken: usize,
-}
-
-#[repr(C)]
-pub struct Restored {
-    pub number: usize,
-    pub state: State,
-}
-
-/// The layout that the library was compiled with. It changes together with the number in `muongrabi_abi_5`.
-const _: () = {
-    assert!(size_of::<usize>() == 8);
-    assert!(offset_of!(Refusal, number) == 0);
-    assert!(offset_of!(Refusal, line) == 8);
-    assert!(offset_of!(Refusal, byte) == 16);
-    assert!(size_of::<Refusal>() == 24);
-    assert!(size_of::<Lengths>() == 48);
-    assert!(offset_of!(State, hashes) == 0);
-    assert!(offset_of!(State, sizes) == 5_120);
-    assert!(offset_of!(State, progress) == 7_168);
-    assert!(size_of::<State>() == 7_296);
-    assert!(offset_of!(Progress, count) == 0);
-    assert!(offset_of!(Progress, line) == 8);
-    assert!(offset_of!(Progress, at) == 16);
-    assert!(offset_of!(Progress, into) == 24);
-    assert!(offset_of!(Progress, total) == 32);
-    assert!(offset_of!(Progress, ready) == 40);
-    assert!(offset_of!(Progress, stretches) == 48);
-    assert!(offset_of!(Progress, refusal) == 56);
-    assert!(offset_of!(Progress, lengths) == 80);
-    assert!(size_of::<Progress>() == 128);
-    assert!(offset_of!(Answer, progress) == 0);
-    assert!(offset_of!(Answer, outcome) == 128);
-    assert!(offset_of!(Answer, number) == 136);
-    assert!(offset_of!(Answer, line) == 144);
-    assert!(offset_of!(Answer, byte) == 152);
-    assert!(offset_of!(Answer, taken) == 160);
-    assert!(size_of::<Answer>() == 168);
-    assert!(offset_of!(Restored, number) == 0);
-    assert!(offset_of!(Restored, state) == 8);
-    assert!(size_of::<Restored>() == 7_304);
-};
+/// Lengths and numbers cross as 64 bits, in the order of bytes that the library was compiled for.
+const _: () = assert!(size_of::<usize>() == 8 && cfg!(target_endian = "little"));
 
 #[rustfmt::skip]
 extern "C" {
-    fn muongrabi_abi_5() -> usize;
+    fn muongrabi_abi_6() -> usize;
     fn muongrabi_digest(bytes: *const u8, bytes_length: usize, out: *mut [u8; 20]);
     fn muongrabi_open(
         list: *const u8, list_length: usize,
         image_length: usize, stash_length: usize, work_length: usize, result_length: usize, patch_length: usize,
-    ) -> State;
+        state: *mut [u8; SAVED], answer: *mut [u64; 3],
+    );
     fn muongrabi_call(
         list: *const u8, list_length: usize,
         image: *mut u8, image_length: usize,
@@ -119,8 +35,8 @@ extern "C" {
         result: *mut u8, result_length: usize,
         patch: *const u8, patch_length: usize,
         piece: *const u8, piece_length: usize,
-        hashes: *mut [u8; TABLE_BYTES], sizes: *mut [usize; MOST_STASHES], progress: Progress,
-    ) -> Answer;
+        state: *mut [u8; SAVED], answer: *mut [u64; 5],
+    );
     fn muongrabi_run(
         list: *const u8, list_length: usize,
         image: *mut u8, image_length: usize,
@@ -130,20 +46,23 @@ extern "C" {
         patch: *const u8, patch_length: usize,
         data: *const u8, data_length: usize,
         cuts: *const usize, cuts_length: usize,
-        hashes: *mut [u8; TABLE_BYTES], sizes: *mut [usize; MOST_STASHES],
-    ) -> Answer;
+        state: *mut [u8; SAVED], answer: *mut [u64; 5],
+    );
     fn muongrabi_save(
-        hashes: *const [u8; TABLE_BYTES], sizes: *const [usize; MOST_STASHES], progress: Progress,
+        hashes: *const [u8; TABLE_BYTES], sizes: *const [usize; MOST_STASHES], numbers: *const [usize; NUMBERS],
         out: *mut [u8; SAVED],
     );
-    fn muongrabi_restore(bytes: *const u8, bytes_length: usize) -> Restored;
+    fn muongrabi_restore(
+        bytes: *const u8, bytes_length: usize,
+        hashes: *mut [u8; TABLE_BYTES], sizes: *mut [usize; MOST_STASHES], numbers: *mut [usize; NUMBERS],
+    ) -> usize;
     fn muongrabi_sparse_load(file: *const u8, file_length: usize, image: *mut u8, image_length: usize) -> u32;
 }
 
-/// Only an archive of this layout has a function of that name, so that no other one links, wherever the linker found it.
+/// Only an archive of these declarations has a function of that name, so that no other one links, wherever the linker found it.
 fn ask_abi() {
     // SAFETY: it takes nothing and gives a number.
-    unsafe { muongrabi_abi_5() };
+    unsafe { muongrabi_abi_6() };
 }
 
 pub fn digest(bytes: &[u8]) -> [u8; 20] {
@@ -153,22 +72,26 @@ pub fn digest(bytes: &[u8]) -> [u8; 20] {
     out
 }
 
-pub fn open(list: &[u8], lengths: crate::Lengths) -> State {
-    let crate::Lengths { image, stash, work, result, patch } = lengths;
+/// The refusal, of number 0 where the list is accepted. The state is then that of the opening, whatever it held.
+pub fn open(list: &[u8], lengths: Lengths, state: &mut [u8; SAVED]) -> Refusal {
+    let Lengths { image, stash, work, result, patch } = lengths;
+    let mut answer = [0; 3];
     ask_abi();
-    // SAFETY: only the list is read.
-    unsafe { muongrabi_open(list.as_ptr(), list.len(), image, stash, work, result, patch) }
+    // SAFETY: the list is lent to be read, and two whole arrays to be written.
+    unsafe { muongrabi_open(list.as_ptr(), list.len(), image, stash, work, result, patch, state, &mut answer) };
+    let [number, line, byte] = answer.map(|number| number as usize);
+    Refusal::new(number, line, byte)
 }
 
-/// The state is then that of the next call. Its tables are changed where they lie.
+/// What a call answers: outcome, the refusal's number, line and byte, and the bytes taken. The state is changed where it lies.
 #[rustfmt::skip]
-pub fn call(list: &[u8], areas: Areas<'_>, piece: &[u8], state: &mut State) -> Answer {
+pub fn call(list: &[u8], areas: Areas<'_>, piece: &[u8], state: &mut [u8; SAVED]) -> [u64; 5] {
     let Areas { image, stash, work, result, patch } = areas;
-    let State { hashes, sizes, progress } = state;
+    let mut answer = [0; 5];
     ask_abi();
-    // SAFETY: seven slices, each with its own length, and two whole tables. The four slices that are written and the tables are borrowed for
+    // SAFETY: seven slices, each with its own length, and two whole arrays. The four slices that are written and the arrays are borrowed for
     // writing, so none overlaps another.
-    let answer = unsafe {
+    unsafe {
         muongrabi_call(
             list.as_ptr(), list.len(),
             image.as_mut_ptr(), image.len(),
@@ -177,22 +100,20 @@ pub fn call(list: &[u8], areas: Areas<'_>, piece: &[u8], state: &mut State) -> A
             result.as_mut_ptr(), result.len(),
             patch.as_ptr(), patch.len(),
             piece.as_ptr(), piece.len(),
-            hashes, sizes, *progress,
+            state, &mut answer,
         )
     };
-    *progress = answer.progress;
     answer
 }
 
-/// The last call's answer, and the state after it.
+/// The last call's answer, with all bytes taken. The state is then that after it, whatever it held.
 #[rustfmt::skip]
-pub fn run(list: &[u8], areas: Areas<'_>, data: &[u8], cuts: &[usize]) -> (Answer, State) {
+pub fn run(list: &[u8], areas: Areas<'_>, data: &[u8], cuts: &[usize], state: &mut [u8; SAVED]) -> [u64; 5] {
     let Areas { image, stash, work, result, patch } = areas;
-    let mut hashes = [0; TABLE_BYTES];
-    let mut sizes = [0; MOST_STASHES];
+    let mut answer = [0; 5];
     ask_abi();
     // SAFETY: as in `call`; the cuts are lent to be read.
-    let answer = unsafe {
+    unsafe {
         muongrabi_run(
             list.as_ptr(), list.len(),
             image.as_mut_ptr(), image.len(),
@@ -202,26 +123,57 @@ pub fn run(list: &[u8], areas: Areas<'_>, data: &[u8], cuts: &[usize]) -> (Answe
             patch.as_ptr(), patch.len(),
             data.as_ptr(), data.len(),
             cuts.as_ptr(), cuts.len(),
-            &mut hashes, &mut sizes,
+            state, &mut answer,
         )
     };
-    let progress = answer.progress;
-    (answer, State { hashes, sizes, progress })
+    answer
 }
 
-pub fn save(state: &State) -> [u8; SAVED] {
-    let State { hashes, sizes, progress } = state;
+/// The saved form of the state with these fields.
+#[rustfmt::skip]
+pub fn save(fields: &Fields) -> [u8; SAVED] {
+    let Fields { stashes, count, line, at, into, total, ready, stretches, refusal, list, lengths } = fields;
+    let Lengths { image, stash, work, result, patch } = *lengths;
+    let mut hashes = [0; TABLE_BYTES];
+    let mut sizes = [0; MOST_STASHES];
+    for ((stash, hash), size) in stashes.iter().zip(hashes.chunks_exact_mut(20)).zip(&mut sizes) {
+        hash.copy_from_slice(&stash.hash);
+        *size = stash.blocks;
+    }
+    let numbers = [
+        *count, *line, *at, *into, *total, *ready, *stretches,
+        refusal.number(), refusal.line(), refusal.raw_byte(),
+        *list, image, stash, work, result, patch,
+    ];
     let mut out = [0; SAVED];
     ask_abi();
-    // SAFETY: two whole tables are lent to be read, and as many bytes as a saved form has to be written.
-    unsafe { muongrabi_save(hashes, sizes, *progress, &mut out) };
+    // SAFETY: three whole arrays are lent to be read, and as many bytes as a saved form has to be written.
+    unsafe { muongrabi_save(&hashes, &sizes, &numbers, &mut out) };
     out
 }
 
-pub fn restore(bytes: &[u8]) -> Restored {
+/// 0 and the fields of the state whose saved form the bytes are; or the number of a refusal, and fields that are all 0.
+#[rustfmt::skip]
+pub fn restore(bytes: &[u8]) -> (usize, Fields) {
+    let mut hashes = [0; TABLE_BYTES];
+    let mut sizes = [0; MOST_STASHES];
+    let mut numbers = [0; NUMBERS];
     ask_abi();
-    // SAFETY: the bytes are lent to be read.
-    unsafe { muongrabi_restore(bytes.as_ptr(), bytes.len()) }
+    // SAFETY: the bytes are lent to be read, and three whole arrays to be written.
+    let answer = unsafe { muongrabi_restore(bytes.as_ptr(), bytes.len(), &mut hashes, &mut sizes, &mut numbers) };
+    let mut stashes = [Stash { hash: [0; 20], blocks: 0 }; MOST_STASHES];
+    for ((stash, hash), size) in stashes.iter_mut().zip(hashes.chunks_exact(20)).zip(sizes) {
+        stash.hash.copy_from_slice(hash);
+        stash.blocks = size;
+    }
+    let [
+        count, line, at, into, total, ready, stretches,
+        refused, refused_line, refused_byte,
+        list, image, stash, work, result, patch,
+    ] = numbers;
+    let refusal = Refusal::new(refused, refused_line, refused_byte);
+    let lengths = Lengths { image, stash, work, result, patch };
+    (answer, Fields { stashes, count, line, at, into, total, ready, stretches, refusal, list, lengths })
 }
 
 /// 0, or the number of a refusal.

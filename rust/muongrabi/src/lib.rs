@@ -7,7 +7,8 @@
 //! exactly when it meets the rules, and then does what they say, in order; and however the new data is cut into pieces, what stands after the
 //! last call is what the rules give for the pieces joined; and a run that was cut at any byte, and goes on from the state saved at its last
 //! stop, ends as one that was not. Nothing is allocated, no file is opened and nothing is kept inside: all that is worked on is lent, and what
-//! must be remembered between calls is the [`State`]. Some 52 KiB of stack are wanted, 13 of them by a [`call`].
+//! must be remembered between calls is the [`State`]. The library wants 52 KiB of stack at most, a [`call`] 20; a state that is handed over is
+//! another 7.
 //!
 //! ```
 //! use muongrabi::{Areas, Outcome, Updater, BLOCK};
@@ -49,8 +50,8 @@
 //!
 //! A first image that comes as an Android sparse file is put into its place by [`load_sparse`].
 //!
-//! It runs on x86-64 Linux, where `libmuongrabi.a` is built (`./build library` in the repository); the build script finds the archive, or
-//! says what to do. With the feature `std`, [`Updater`] is a `std::io::Write`.
+//! It runs on x86-64 and AArch64 Linux, Android among them, for which `libmuongrabi.a` is built (in the repository by `./build library`, for
+//! AArch64 by `./build aarch64`); the build script finds the archive, or says what to do. With the feature `std`, [`Updater`] is a `std::io::Write`.
 
 #![no_std]
 #![warn(missing_docs)]
@@ -99,10 +100,11 @@ pub fn digest(bytes: &[u8]) -> [u8; 20] {
 /// # Ok::<(), muongrabi::Refusal>(())
 /// ```
 pub fn open(list: &[u8], lengths: Lengths) -> Result<State, Refusal> {
-    let state = State { raw: exports::open(list, lengths) };
-    match state.refusal() {
-        None => Ok(state),
-        Some(refusal) => Err(refusal),
+    let mut form = [0; SAVED];
+    let refusal = exports::open(list, lengths, &mut form);
+    match refusal.number() {
+        0 => Ok(State { form }),
+        _ => Err(refusal),
     }
 }
 
@@ -110,10 +112,11 @@ pub fn open(list: &[u8], lengths: Lengths) -> Result<State, Refusal> {
 /// the run stops for saving. The state is then that of the next call.
 ///
 /// A refusal other than 17 is held in the state, and every later call repeats it. With 17 (the state does not fit the list, the areas and the
-/// patch data) the state stays as it was, and nothing is taken or changed. A refused line changes nothing itself, with two exceptions: where a
-/// hash differs (16) or a patch is malformed (19) the work area has the source, and where it is the hash of a patch's result, the result area
-/// has the result. Nothing rests on what the opening found: state and lengths are looked at (17), and each line is read and checked again (6 to
-/// 14, 18) before it runs, so that a line altered since then is refused where it stands. Line 2 is the opening's alone (15).
+/// patch data) the state stays as it was, and nothing is taken or changed; 20 is never given, since a [`State`] always is a saved form. A refused
+/// line changes nothing itself, with two exceptions: where a hash differs (16) or a patch is malformed (19) the work area has the source, and where
+/// it is the hash of a patch's result, the result area has the result. Nothing rests on what the opening found: state and lengths are looked at
+/// (17), and each line is read and checked again (6 to 14, 18) before it runs, so that a line altered since then is refused where it stands. Line 2
+/// is the opening's alone (15).
 ///
 /// [`Updater`] keeps list, areas and state together; this is for callers who keep them themselves.
 ///
@@ -163,7 +166,7 @@ pub fn open(list: &[u8], lengths: Lengths) -> Result<State, Refusal> {
 /// }
 /// ```
 pub fn call(list: &[u8], areas: Areas<'_>, piece: &[u8], state: &mut State) -> Called {
-    Called::of(&exports::call(list, areas, piece, &mut state.raw))
+    Called::of(exports::call(list, areas, piece, &mut state.form))
 }
 
 /// Opens the list, then calls with pieces of the data, whose lengths are `cuts`, cut short where the data ends, and once more with all
@@ -180,6 +183,7 @@ pub fn call(list: &[u8], areas: Areas<'_>, piece: &[u8], state: &mut State) -> C
 /// assert_eq!((called.outcome, called.taken), (Outcome::Done, 8_192));
 /// ```
 pub fn run(list: &[u8], areas: Areas<'_>, data: &[u8], cuts: &[usize]) -> (Called, State) {
-    let (answer, raw) = exports::run(list, areas, data, cuts);
-    (Called::of(&answer), State { raw })
+    let mut form = [0; SAVED];
+    let answer = exports::run(list, areas, data, cuts, &mut form);
+    (Called::of(answer), State { form })
 }

@@ -1,7 +1,6 @@
 //! What a call comes to.
 
-use crate::exports::{self, Answer};
-use crate::Refusal;
+use crate::{exports, Refusal};
 use core::fmt;
 
 /// How a call ended.
@@ -40,13 +39,14 @@ pub struct Called {
 }
 
 impl Called {
-    pub(crate) fn of(answer: &Answer) -> Called {
-        let outcome = match answer.outcome {
+    /// From the numbers in which a call answers.
+    pub(crate) fn of([outcome, number, line, byte, taken]: [u64; 5]) -> Called {
+        let outcome = match outcome {
             exports::DONE => Outcome::Done,
             exports::MORE => Outcome::More,
             exports::STOP => Outcome::Stop,
-            _ => Outcome::Refused(Refusal::new(answer.number, answer.line, answer.byte)),
+            _ => Outcome::Refused(Refusal::new(number as usize, line as usize, byte as usize)),
         };
-        Called { outcome, taken: answer.taken }
+        Called { outcome, taken: taken as usize }
     }
 }

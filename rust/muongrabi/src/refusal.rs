@@ -52,7 +52,8 @@ impl Refusal {
     pub const PAST_PATCH: usize = 18;
     /// In a run: a patch that is read is malformed, or its result is not as long as the target.
     pub const PATCH_MALFORMED: usize = 19;
-    /// The bytes are no state's saved form: [`State::restore`](crate::State::restore) alone gives it.
+    /// The bytes are no state's saved form: [`State::restore`](crate::State::restore) alone gives it. A call over such bytes would too, but a
+    /// [`State`](crate::State) always is one.
     pub const NO_SAVED_FORM: usize = 20;
     /// A sparse file's header is cut short, or its mark or major version is another.
     pub const SPARSE_HEADER: usize = 30;

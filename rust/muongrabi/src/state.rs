@@ -6,14 +6,15 @@ use core::fmt;
 /// Where a run stands between two calls: the current line, how far it is done, the stashes held, the bytes taken so far.
 ///
 /// [`open`](crate::open) gives the first one, and each [`call`](crate::call) leaves the next one in its place. Every state is safe to call
-/// with: one that is impossible with the list, the areas and the patch data is refused (17).
+/// with: one that is impossible with the list, the areas and the patch data is refused (17). It holds its saved form, 7 KB that a call reads and
+/// changes where they lie, and always is one: no call with it gives [`NO_SAVED_FORM`](Refusal::NO_SAVED_FORM).
 ///
 /// To finish after a power cut, keep image and areas in storage, and beside them what [`save`](State::save) gives: after opening and at every
 /// [`Stop`](crate::Outcome::Stop). Storage must have image and areas before the saved form that speaks of them, and the saved form, whole, before
 /// the next call writes. Then [`restore`](State::restore), and the new data from byte [`total`](State::total) on, end as a run that was not cut.
 #[derive(Clone, PartialEq, Eq)]
 pub struct State {
-    pub(crate) raw: exports::State,
+    pub(crate) form: [u8; SAVED],
 }
 
 /// A stash that is held.
@@ -57,17 +58,17 @@ pub struct Fields {
 impl State {
     /// The current line's number, counted from 1.
     pub fn line(&self) -> usize {
-        self.raw.progress.line
+        self.fields().line
     }
 
     /// Where the current line starts in the list, in bytes from 0: how far the run has come.
     pub fn at(&self) -> usize {
-        self.raw.progress.at
+        self.fields().at
     }
 
     /// Bytes of new data taken by all calls since the opening, modulo 2^64: where the new data goes on.
     pub fn total(&self) -> u64 {
-        self.raw.progress.total as u64
+        self.fields().total as u64
     }
 
     /// Its saved form: bytes that every state has, the same on every machine. `docs/SAVED-FORM.md` has their layout.
@@ -83,78 +84,44 @@ impl State {
     /// # Ok::<(), Refusal>(())
     /// ```
     pub fn save(&self) -> [u8; SAVED] {
-        exports::save(&self.raw)
+        self.form
+    }
+
+    /// Its saved form, lent: what [`save`](State::save) copies.
+    pub const fn as_bytes(&self) -> &[u8; SAVED] {
+        &self.form
     }
 
     /// The state whose saved form the bytes are; [`NO_SAVED_FORM`](Refusal::NO_SAVED_FORM), of no line, exactly when they are no state's. It is not
     /// asked whether the state fits a list and areas: a call does (17).
     pub fn restore(bytes: &[u8]) -> Result<State, Refusal> {
-        match exports::restore(bytes) {
-            exports::Restored { number: 0, state } => Ok(State { raw: state }),
-            exports::Restored { number, .. } => Err(Refusal::new(number, 0, 0)),
+        let (number, _) = exports::restore(bytes);
+        match bytes.try_into() {
+            Ok(form) if number == 0 => Ok(State { form }),
+            _ => Err(Refusal::new(number, 0, 0)),
         }
     }
 
     /// The refusal that every later call repeats, if there is one.
     pub fn refusal(&self) -> Option<Refusal> {
-        match self.raw.progress.refusal {
-            exports::Refusal { number: 0, .. } => None,
-            exports::Refusal { number, line, byte } => Some(Refusal::new(number, line, byte)),
-        }
+        held(self.fields().refusal)
     }
 
     /// All that it holds.
     pub fn fields(&self) -> Fields {
-        let exports::State { hashes, sizes, progress } = &self.raw;
-        let exports::Progress { count, line, at, into, total, ready, stretches, refusal, lengths } = *progress;
-        let mut stashes = [Stash { hash: [0; 20], blocks: 0 }; MOST_STASHES];
-        for ((stash, hash), blocks) in stashes.iter_mut().zip(hashes.chunks_exact(20)).zip(sizes) {
-            stash.hash.copy_from_slice(hash);
-            stash.blocks = *blocks;
-        }
-        Fields {
-            stashes,
-            count,
-            line,
-            at,
-            into,
-            total,
-            ready,
-            stretches,
-            refusal: Refusal::new(refusal.number, refusal.line, refusal.byte),
-            list: lengths.list,
-            lengths: Lengths { image: lengths.image, stash: lengths.stash, work: lengths.work, result: lengths.result, patch: lengths.patch },
-        }
+        // Number 0, since it is a saved form.
+        exports::restore(&self.form).1
     }
+}
+
+/// Number 0 is none.
+fn held(refusal: Refusal) -> Option<Refusal> {
+    (refusal.number() != 0).then_some(refusal)
 }
 
 impl From<&Fields> for State {
     fn from(fields: &Fields) -> State {
-        let Fields { stashes, count, line, at, into, total, ready, stretches, refusal, list, lengths } = fields;
-        let progress = exports::Progress {
-            count: *count,
-            line: *line,
-            at: *at,
-            into: *into,
-            total: *total,
-            ready: *ready,
-            stretches: *stretches,
-            refusal: exports::Refusal { number: refusal.number(), line: refusal.line(), byte: refusal.raw_byte() },
-            lengths: exports::Lengths {
-                list: *list,
-                image: lengths.image,
-                stash: lengths.stash,
-                work: lengths.work,
-                result: lengths.result,
-                patch: lengths.patch,
-            },
-        };
-        let mut raw = exports::State { hashes: [0; exports::TABLE_BYTES], sizes: [0; MOST_STASHES], progress };
-        for ((stash, hash), size) in stashes.iter().zip(raw.hashes.chunks_exact_mut(20)).zip(&mut raw.sizes) {
-            hash.copy_from_slice(&stash.hash);
-            *size = stash.blocks;
-        }
-        State { raw }
+        State { form: exports::save(fields) }
     }
 }
 
@@ -170,7 +137,7 @@ impl fmt::Debug for State {
             .field("total", &fields.total)
             .field("ready", &fields.ready)
             .field("stretches", &fields.stretches)
-            .field("refusal", &self.refusal())
+            .field("refusal", &held(fields.refusal))
             .field("list", &fields.list)
             .field("lengths", &fields.lengths)
             .finish()

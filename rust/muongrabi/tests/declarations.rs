@@ -1,17 +1,21 @@
-//! The proved source, the C header and this crate declare the same things: functions, structs, limits, refusals in numbers and in words.
-//! No compiler sees more than one of them at a time, so their texts are compared.
+//! The proved source, the C header and this crate declare the same things: functions, the order of what arrays hold, limits, refusals in numbers and
+//! in words. No compiler sees more than one of them at a time, so their texts are compared.
 
 use muongrabi::{Refusal, State, BLOCK, MOST_AREA, MOST_IMAGE, MOST_LIST, MOST_RESULT, MOST_STASHES, SAVED};
 use std::mem::size_of;
 
 const HEADER: &str = include_str!("../../../include/muongrabi.h");
 const EXPORTS: &str = include_str!("../src/exports.rs");
+const CRATE_LIMITS: &str = include_str!("../src/limits.rs");
+const OUTCOME: &str = include_str!("../src/outcome.rs");
 const BUILD: &str = include_str!("../build.rs");
+/// The same declarations again, for tests that call the exports themselves.
+const RAW: &str = include_str!("../../check/src/raw.rs");
 const LIBRARY: &str = include_str!("../../../crates/muongrabi/src/lib.rt");
-const STATE: &str = include_str!("../../../crates/state/src/lib.rt");
 const LIMITS: &str = include_str!("../../../crates/state/src/limits.rt");
 const REFUSALS: &str = include_str!("../../../crates/state/src/refusals.rt");
 const SAVED_FORM: &str = include_str!("../../../crates/saved/src/lib.rt");
+const LAYOUT: &str = include_str!("../../../crates/saved/src/layout.rt");
 
 /// What stands between the first `from` and the next `to`.
 fn between<'a>(text: &'a str, from: &str, to: &str) -> &'a str {
@@ -35,11 +39,6 @@ fn version() {
     assert_eq!(defined("MUONGRABI_VERSION"), format!("\"{}\"", env!("CARGO_PKG_VERSION")));
 }
 
-/// The size that the header asserts of a struct.
-fn size_asserted(name: &str) -> &'static str {
-    between(HEADER, &format!("sizeof(muongrabi_{name}) == "), ")")
-}
-
 #[test]
 fn abi() {
     let number = defined("MUONGRABI_ABI");
@@ -53,9 +52,8 @@ fn abi() {
     ] {
         assert!(text.contains(&declared), "{declared}");
     }
-    // The layout that goes with the number.
-    let structs = ["state", "progress", "export_answer", "restored"].map(size_asserted);
-    assert_eq!((number, structs), ("5", ["7296", "128", "168", "7304"]));
+    // What goes with the number: `functions` has it whole.
+    assert_eq!(number, "6");
 }
 
 #[test]
@@ -72,25 +70,23 @@ fn limits() {
         assert!(proved.contains(&(source, limit)), "{source}");
         assert_eq!(defined(header), format!("{limit}ul"), "{header}");
     }
-    assert!(proved.contains(&("HASH_BYTES", 20)));
-    assert_eq!(between(LIMITS, "pub const TABLE_BYTES: usize = ", ";"), "HASH_BYTES * MOST_STASHES");
-    assert_eq!(between(EXPORTS, "pub const TABLE_BYTES: usize = ", ";"), "20 * MOST_STASHES");
-    // A saved form is a state's bytes and five marks of two. The proved source works it out of its records; its export writes so many.
+    // A saved form is two tables, 16 numbers and five marks of two bytes, and a state is nothing else.
     assert_eq!(defined("MUONGRABI_SAVED"), format!("{SAVED}ul"));
-    assert_eq!(SAVED, size_of::<State>() + 5 * 2);
-    assert!(SAVED_FORM.contains("pub const SAVED_BYTES: usize = ") && LIBRARY.contains("out: &mut [u8; SAVED_BYTES]"));
+    assert_eq!((length("SAVED_BYTES", proved_constant), SAVED), (SAVED, 20 * MOST_STASHES + 8 * MOST_STASHES + 8 * 16 + 5 * 2));
+    assert_eq!(size_of::<State>(), SAVED);
 }
 
 #[test]
 fn outcomes() {
-    for (name, header, number) in [("DONE", "MUONGRABI_DONE", 0), ("MORE", "MUONGRABI_MORE", 1), ("STOP", "MUONGRABI_STOP", 3)] {
-        assert_eq!(defined(header), format!("{number}u"));
-        assert_eq!(between(EXPORTS, &format!("pub const {name}: usize = "), ";"), number.to_string());
-    }
-    assert_eq!(defined("MUONGRABI_REFUSED"), "2u");
-    for (outcome, number) in [("Done", 0), ("More", 1), ("Stop", 3), ("Refused(refusal)", 2)] {
-        let arm = between(LIBRARY, &format!("Outcome::{outcome} => Answer {{"), "}");
-        assert_eq!(between(arm, "outcome: ", ","), number.to_string());
+    for (name, outcome, number) in [("DONE", "Done", 0), ("MORE", "More", 1), ("REFUSED", "Refused(refusal)", 2), ("STOP", "Stop", 3)] {
+        assert_eq!(defined(&format!("MUONGRABI_{name}")), format!("{number}u"));
+        assert_eq!(between(LIBRARY, &format!("const {name}: u64 = "), ";"), number.to_string());
+        assert_eq!(between(LIBRARY, &format!("Outcome::{outcome} => ["), ",").trim(), name);
+        // Here every number but three is a refusal.
+        if name != "REFUSED" {
+            assert_eq!(between(EXPORTS, &format!("pub const {name}: u64 = "), ";"), number.to_string());
+            assert!(OUTCOME.contains(&format!("exports::{name} => Outcome::{outcome},")), "{name}");
+        }
     }
 }
 
@@ -221,12 +217,6 @@ fn words() {
     }
 }
 
-/// The fields of a struct of Rust, or of the proved source, in their order.
-fn fields<'a>(source: &'a str, name: &str) -> Vec<&'a str> {
-    let body = between(source, &format!("pub struct {name} {{\n"), "\n}");
-    body.lines().map(|line| between(line, "pub ", ":")).collect()
-}
-
 /// The fields of a struct of the header, in their order.
 fn header_fields(name: &str) -> Vec<&'static str> {
     let body = between(HEADER, &format!("typedef struct muongrabi_{name} {{\n"), "\n}");
@@ -234,89 +224,209 @@ fn header_fields(name: &str) -> Vec<&'static str> {
     body.lines().map(|line| field(line).expect("a field")).collect()
 }
 
-/// The fields, with those of the progress where it stands.
-fn spread<'a>(fields: &[&'a str], progress: &[&'a str]) -> Vec<&'a str> {
-    fields.iter().flat_map(|field| if *field == "progress" { progress } else { std::slice::from_ref(field) }).copied().collect()
+/// What stands in an array of a text, item by item.
+fn items<'a>(text: &'a str, from: &str, to: &str) -> Vec<&'a str> {
+    between(text, from, to).split(',').map(str::trim).filter(|item| !item.is_empty()).collect()
+}
+
+/// The numbers of a state behind its tables, by the names that the header's fields have, those of refusal and lengths where these stand.
+fn state_numbers() -> Vec<String> {
+    let fields = header_fields("fields");
+    let (tables, numbers) = fields.split_at(2);
+    assert_eq!(tables, ["hashes", "sizes"]);
+    let parts = |field: &&str| match *field {
+        part @ ("refusal" | "lengths") => header_fields(part).iter().map(|name| format!("{part}.{name}")).collect(),
+        plain => vec![plain.to_string()],
+    };
+    numbers.iter().flat_map(parts).collect()
 }
 
 #[test]
-fn structs() {
-    for (name, source, in_header) in [
-        ("Refusal", STATE, "refusal"),
-        ("Lengths", STATE, "lengths"),
-        ("Progress", STATE, "progress"),
-        ("Answer", LIBRARY, "export_answer"),
-        ("Restored", SAVED_FORM, "restored"),
-    ] {
-        let of_header = header_fields(in_header);
-        assert_eq!(fields(EXPORTS, name), of_header, "{name}");
-        assert_eq!(fields(source, name), of_header, "{name}");
+fn numbers_of_a_state_in_their_order() {
+    let expected = state_numbers();
+    assert_eq!(expected.len(), 16);
+    // This crate names the lengths alone, and has the list's beside them.
+    let named = |name: &str| match name {
+        "list" | "image" | "stash" | "work" | "result" | "patch" => format!("lengths.{name}"),
+        "refused" => "refusal.number".into(),
+        "refused_line" => "refusal.line".into(),
+        "refused_byte" | "refusal.raw_byte" => "refusal.byte".into(),
+        other => other.to_string(),
+    };
+    let written = items(EXPORTS, "let numbers = [\n", "];").into_iter().map(|item| named(item.trim_matches(['*', '(', ')'])));
+    assert_eq!(written.collect::<Vec<_>>(), expected);
+    let read = items(EXPORTS, "let [\n", "] = numbers;").into_iter().map(named);
+    assert_eq!(read.collect::<Vec<_>>(), expected);
+    let proved = items(LIBRARY, "*numbers = [\n", "];").into_iter().map(|item| item.strip_prefix("progress.").unwrap_or(item));
+    assert_eq!(proved.collect::<Vec<_>>(), expected);
+    for (k, name) in expected.iter().enumerate() {
+        for both in [format!("numbers[{k}] = fields->{name};"), format!("fields->{name} = numbers[{k}];")] {
+            assert!(HEADER.contains(&both), "{both}");
+        }
     }
-    // A state is its tables and then its progress, which this crate keeps as one field.
-    let progress = header_fields("progress");
-    assert_eq!(header_fields("state"), spread(&["hashes", "sizes", "progress"], &progress));
-    assert_eq!(fields(STATE, "State"), header_fields("state"));
-    assert_eq!(spread(&fields(EXPORTS, "State"), &progress), header_fields("state"));
-    // What people are answered has no part of a state.
-    assert_eq!(spread(&header_fields("export_answer"), &[]), header_fields("answer"));
 }
 
-/// A parameter as it crosses: its name, and whether it is a pointer, an array that is pointed to, a number or a struct. A slice is a pointer and
-/// a number.
-fn crosses(name: &str, kind: &str) -> String {
+#[test]
+fn answers_in_their_order() {
+    let refusal = header_fields("refusal");
+    assert_eq!(refusal, ["number", "line", "byte"]);
+    assert_eq!(items(EXPORTS, "let [number", "] = answer"), refusal[1..]);
+    assert_eq!(items(LIBRARY, "*answer = [\n", "];"), refusal.iter().map(|name| format!("refused.{name} as u64")).collect::<Vec<_>>());
+    let answer = header_fields("answer");
+    assert_eq!(answer, ["outcome", "number", "line", "byte", "taken"]);
+    assert_eq!(items(OUTCOME, "fn of([", "]: [u64; 5])"), answer);
+    let refused = items(LIBRARY, "Outcome::Refused(refusal) => [\n", "]");
+    assert_eq!(refused, ["REFUSED", "refusal.number as u64", "refusal.line as u64", "refusal.byte as u64", "taken as u64"]);
+    for (name, row, fields) in [("refusal", "answer", &refusal), ("answer", "numbers", &answer)] {
+        for (k, field) in fields.iter().enumerate() {
+            assert!(HEADER.contains(&format!("{name}.{field} = {row}[{k}];")), "{name}.{field}");
+        }
+    }
+}
+
+/// What a constant is said to be, in the proved source, in this crate and in the header.
+fn proved_constant(name: &str) -> &'static str {
+    constant(&[LIBRARY, LIMITS, SAVED_FORM, LAYOUT], name)
+}
+
+fn crate_constant(name: &str) -> &'static str {
+    constant(&[EXPORTS, CRATE_LIMITS], name)
+}
+
+fn constant(sources: &[&'static str], name: &str) -> &'static str {
+    let declared = format!("const {name}: usize = ");
+    let source = sources.iter().find(|source| source.contains(&declared)).unwrap_or_else(|| panic!("no {declared:?}"));
+    between(source, &declared, ";")
+}
+
+/// A length, which may be a sum of products of numbers and of constants.
+fn length(text: &str, constant: fn(&str) -> &'static str) -> usize {
+    let factor = |factor: &str| {
+        let digits = factor.trim_end_matches("ul").replace('_', "");
+        digits.parse().unwrap_or_else(|_| length(constant(factor), constant))
+    };
+    text.split('+').map(|term| term.split('*').map(str::trim).map(factor).product::<usize>()).sum()
+}
+
+/// A parameter as it crosses: a number, a pointer, or a pointer to so many; of a pointer, whether what it names is only read. Nothing else crosses,
+/// and no struct. A slice is a pointer and a number.
+fn crosses(name: &str, kind: &str, constant: fn(&str) -> &'static str) -> String {
     let name = name.trim().trim_end_matches("_length");
-    match kind.trim() {
-        "&[u8]" | "&mut [u8]" | "&[usize]" => format!("{name}* {name} "),
-        "*const u8" | "*mut u8" | "*const usize" | "*" => format!("{name}* "),
-        "&mut [u8; 20]" | "*mut [u8; 20]" | "uint8_t[20]" => format!("{name}*20 "),
-        "&mut [u8; TABLE_BYTES]" | "*mut [u8; TABLE_BYTES]" | "uint8_t[20 * MUONGRABI_MOST_STASHES]" => format!("{name}*table "),
-        "&[u8; TABLE_BYTES]" | "*const [u8; TABLE_BYTES]" | "const uint8_t[20 * MUONGRABI_MOST_STASHES]" => format!("{name}*read table "),
-        "&mut [usize; MOST_STASHES]" | "*mut [usize; MOST_STASHES]" | "size_t[MUONGRABI_MOST_STASHES]" => format!("{name}*most "),
-        "&[usize; MOST_STASHES]" | "*const [usize; MOST_STASHES]" | "const size_t[MUONGRABI_MOST_STASHES]" => format!("{name}*read most "),
-        "&mut [u8; SAVED_BYTES]" | "*mut [u8; SAVED]" | "uint8_t[MUONGRABI_SAVED]" => format!("{name}*saved "),
-        "usize" | "size_t" => format!("{name} "),
-        "Progress" | "muongrabi_progress" => format!("{name}: progress "),
-        other => panic!("what is {other:?}?"),
+    let kind = kind.trim();
+    if kind == "usize" {
+        return format!("{name} number, ");
+    }
+    let pointers = [("&mut ", "mut"), ("&", "read"), ("*mut ", "mut"), ("*const ", "read")];
+    let (to, used) = pointers.iter().find_map(|(sign, used)| Some((kind.strip_prefix(sign)?, used))).unwrap_or_else(|| panic!("what is {kind:?}?"));
+    match to.strip_prefix('[').and_then(|inner| inner.strip_suffix(']')) {
+        None => format!("{name} {used} {}, ", plain(to)),
+        Some(inner) => match inner.split_once(';') {
+            None => format!("{name} {used} {}, {name} number, ", plain(inner)),
+            Some((of, many)) => format!("{name} {used} {} x {}, ", plain(of), length(many, constant)),
+        },
     }
 }
 
-/// A parameter of the header.
+/// A number's type by its Rust name, and no other type.
+fn plain(kind: &str) -> &str {
+    assert!(["u8", "u64", "usize"].contains(&kind), "what is {kind:?}?");
+    kind
+}
+
+/// The parameters of a function of Rust or of the proved source.
+fn rust_crosses(source: &str, name: &str, constant: fn(&str) -> &'static str) -> String {
+    let parameters = between(source, &format!("fn muongrabi_{name}("), ")").split(',').filter(|one| !one.trim().is_empty());
+    let parted = parameters.map(|one| one.split_once(':').expect("a parameter"));
+    parted.map(|(name, kind)| crosses(name, kind, constant)).collect()
+}
+
+/// A parameter of the header, in Rust's words.
 fn header_crosses(one: &str) -> String {
-    let (declared, length) = one.split_once('[').map_or((one, String::new()), |(declared, length)| (declared, format!("[{length}")));
-    let (kind, name) = declared.rsplit_once(' ').expect("a parameter");
-    match name.strip_prefix('*') {
-        Some(name) => crosses(name, "*"),
-        None => crosses(name, &(kind.to_string() + &length)),
+    let (kind, name) = one.split('[').next().and_then(|declared| declared.rsplit_once(' ')).expect("a parameter");
+    let (used, kind) = kind.strip_prefix("const ").map_or(("*mut", kind), |kind| ("*const", kind));
+    let number = match kind {
+        "uint8_t" => "u8",
+        "uint64_t" => "u64",
+        "size_t" => "usize",
+        other => panic!("what is {other:?}?"),
+    };
+    match (name.strip_prefix('*'), one.split_once('[')) {
+        (Some(name), None) => crosses(name, &format!("{used} {number}"), defined),
+        (None, Some((_, many))) => crosses(name, &format!("{used} [{number};{many}"), defined),
+        (None, None) => crosses(name, number, defined),
+        (Some(_), Some(_)) => panic!("what is {one:?}?"),
     }
 }
+
+/// What each function takes and gives under this number of the ABI. Where a line of this changes, so does the number.
+const ABI_6: [(&str, &str, &str); 7] = [
+    ("digest", "bytes read u8, bytes number, out mut u8 x 20, ", ""),
+    (
+        "open",
+        "list read u8, list number, image number, stash number, work number, result number, patch number, state mut u8 x 7306, answer mut u64 x 3, ",
+        "",
+    ),
+    (
+        "call",
+        "list read u8, list number, image mut u8, image number, stash mut u8, stash number, work mut u8, work number, \
+         result mut u8, result number, patch read u8, patch number, piece read u8, piece number, state mut u8 x 7306, answer mut u64 x 5, ",
+        "",
+    ),
+    (
+        "run",
+        "list read u8, list number, image mut u8, image number, stash mut u8, stash number, work mut u8, work number, \
+         result mut u8, result number, patch read u8, patch number, data read u8, data number, cuts read usize, cuts number, \
+         state mut u8 x 7306, answer mut u64 x 5, ",
+        "",
+    ),
+    ("save", "hashes read u8 x 5120, sizes read usize x 256, numbers read usize x 16, out mut u8 x 7306, ", ""),
+    ("restore", "bytes read u8, bytes number, hashes mut u8 x 5120, sizes mut usize x 256, numbers mut usize x 16, ", " -> usize"),
+    ("sparse_load", "file read u8, file number, image mut u8, image number, ", " -> u32"),
+];
 
 #[test]
 fn functions() {
-    // A name for how long something is lent does not cross.
-    let library = LIBRARY.replace("<'a>", "").replace("&'a ", "&");
-    for (gives, name, gives_here) in [
-        ("void", "digest", ""),
-        ("muongrabi_state", "open", " -> State"),
-        ("muongrabi_export_answer", "call", " -> Answer"),
-        ("muongrabi_export_answer", "run", " -> Answer"),
-        ("void", "save", ""),
-        ("muongrabi_restored", "restore", " -> Restored"),
-        ("uint32_t", "sparse_load", " -> u32"),
-    ] {
-        let of_rust = |source: &str| -> String {
-            let parameters = between(source, &format!("fn muongrabi_{name}("), ")").split(',').filter(|one| !one.trim().is_empty());
-            let parted = parameters.map(|one| one.split_once(':').expect("a parameter"));
-            parted.map(|(name, kind)| crosses(name, kind)).collect()
+    for (name, takes, gives) in ABI_6 {
+        let gives_in_c = match gives {
+            " -> usize" => "size_t",
+            " -> u32" => "uint32_t",
+            _ => "void",
         };
-        let parameters = between(HEADER, &format!("\n{gives} muongrabi_{name}("), ");").split(',').map(str::trim);
-        let of_header: String = parameters.map(header_crosses).collect();
-        assert_eq!(of_rust(EXPORTS), of_header, "{name}");
-        for (source, end) in [(EXPORTS, ";\n"), (&library, "\n    ensures")] {
-            let declared = between(source, &format!("fn muongrabi_{name}("), end);
-            assert_eq!(declared.rsplit_once(')').map(|(_, after)| after), Some(gives_here), "{name}");
-        }
+        let parameters = between(HEADER, &format!("\n{gives_in_c} muongrabi_{name}("), ");").split(',').map(str::trim);
+        assert_eq!(parameters.map(header_crosses).collect::<String>(), takes, "{name} in the header");
+        assert_eq!(rust_crosses(EXPORTS, name, crate_constant), takes, "{name} in this crate");
         // `data` is no name for a parameter in the proved source.
-        let of_source = if name == "run" { of_rust(&library).replace("bytes", "data") } else { of_rust(&library) };
-        assert_eq!(of_source, of_header, "{name}");
+        let proved = rust_crosses(LIBRARY, name, proved_constant);
+        assert_eq!(if name == "run" { proved.replace("bytes", "data") } else { proved }, takes, "{name} in the proved source");
+        for source in [EXPORTS, LIBRARY] {
+            let (_, declared) = source.split_once(&format!("fn muongrabi_{name}(")).expect("a function");
+            assert_eq!(between(declared, ")", "\n").trim_end_matches(';'), gives, "{name}");
+        }
+    }
+}
+
+/// The names that follow this in a text, each up to its bracket.
+fn names<'a>(text: &'a str, before: &str) -> Vec<&'a str> {
+    text.split(before).skip(1).filter_map(|after| after.split('(').next()).collect()
+}
+
+#[test]
+fn no_function_is_left_out() {
+    let mut all: Vec<&str> = vec!["abi_6"];
+    all.extend(ABI_6.map(|(name, ..)| name));
+    assert_eq!(names(LIBRARY, "pub extern \"C\" fn muongrabi_"), all);
+    assert_eq!(names(EXPORTS, "    fn muongrabi_"), all);
+    let declared = HEADER.lines().filter(|line| ["void ", "size_t ", "uint32_t "].iter().any(|gives| line.starts_with(gives)));
+    assert_eq!(declared.flat_map(|line| names(line, " muongrabi_")).collect::<Vec<_>>(), all);
+}
+
+#[test]
+fn those_who_call_the_exports_themselves_declare_them_alike() {
+    for name in names(RAW, "    fn muongrabi_") {
+        let declared = |source| between(source, &format!("    fn muongrabi_{name}("), ";\n");
+        assert_eq!(declared(RAW), declared(EXPORTS), "{name}");
+    }
+    for name in ["TABLE_BYTES", "NUMBERS"] {
+        assert_eq!(constant(&[RAW], name), crate_constant(name));
     }
 }

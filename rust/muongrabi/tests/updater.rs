@@ -170,7 +170,24 @@ fn a_saved_form_is_one_states() {
     fields.lengths = Lengths { image: 8, stash: 9, work: 10, result: 11, patch: usize::MAX };
     let state = State::from(&fields);
     let bytes: [u8; SAVED] = state.save();
+    assert_eq!(state.as_bytes(), &bytes);
     assert_eq!(State::restore(&bytes), Ok(state.clone()));
+    // Laid out as docs/SAVED-FORM.md says.
+    for (at, mark) in [(0, b"SH"), (5_122, b"SB"), (7_172, b"SP"), (7_230, b"SR"), (7_256, b"SL")] {
+        assert_eq!(bytes[at..at + 2], *mark);
+    }
+    for (k, stash) in fields.stashes.iter().enumerate() {
+        assert_eq!(bytes[2 + 20 * k..][..20], stash.hash);
+        assert_eq!(bytes[5_124 + 8 * k..][..8], stash.blocks.to_le_bytes());
+    }
+    let Fields { count, line, at, into, total, ready, stretches, refusal, list, lengths, .. } = fields;
+    let Lengths { image, stash, work, result, patch } = lengths;
+    let progress = [count, line, at, into, total, ready, stretches];
+    let refused = [refusal.number(), refusal.line(), refusal.raw_byte()];
+    for (at, numbers) in [(7_174, &progress[..]), (7_232, &refused), (7_258, &[list, image, stash, work, result, patch])] {
+        let row: Vec<u8> = numbers.iter().flat_map(|number| number.to_le_bytes()).collect();
+        assert_eq!(bytes[at..at + row.len()], row);
+    }
     // Another length, and none.
     let refused = Err(Refusal::new(Refusal::NO_SAVED_FORM, 0, 0));
     for other in [&bytes[1..], &bytes[..SAVED - 1], &[], &[&bytes[..], &[0]].concat()] {
@@ -286,6 +303,7 @@ fn refusals_stop_a_run_and_stay() {
     let (called, state) = run(b"3\n10\n0\n0\nnew 2,0,1\nzero 2,0,9\n", lent.areas(), &blocks("p"), &[]);
     assert_eq!(called, Called { outcome: Outcome::Refused(Refusal::new(8, 6, 0)), taken: 0 });
     assert_eq!((state.refusal(), state.line(), state.fields().list), (Some(Refusal::new(8, 6, 0)), 0, 0));
+    assert_eq!(State::restore(state.as_bytes()), Ok(state));
     assert_eq!(lent.letters(), ["ABCDEFGH", "x", "uvw", "rs"]);
 }
 

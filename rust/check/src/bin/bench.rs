@@ -8,8 +8,9 @@ use check::generate::patch::{patch_of, Record};
 use check::generate::sparse::{Chunk, SparseFile, DONT_CARE, FILL, RAW};
 use check::generate::Rng;
 use check::library::{library_state, outcome_of};
-use check::{hex, Implementation, Library, Plain};
+use check::{hex, raw, Form, Implementation, Library, Plain};
 use muongrabi::{Areas, Lengths};
+use reference::saved::{self, SAVED};
 use reference::{digest, plain, Hash, Outcome, Rooms, BLOCK, MOST_AREA, MOST_LIST, MOST_RESULT, MOST_STASHES};
 use std::hint::black_box;
 use std::time::Duration;
@@ -45,6 +46,7 @@ fn measure<S: Side>(wanted: impl Fn(&str) -> bool) {
     if wanted("calls") {
         calls::<S>();
         stops::<S>();
+        saved_forms::<S>();
     }
     if wanted("new") {
         new_data::<S>();
@@ -54,9 +56,12 @@ fn measure<S: Side>(wanted: impl Fn(&str) -> bool) {
     }
 }
 
-/// One side of the times. Its state stays in its own form from call to call: `Implementation` would convert it, and that costs.
+/// One side of the times. Its state stays in its own form from call to call, the library's as its saved form, plain Rust's as a struct:
+/// `Implementation` would convert it, and that costs.
 trait Side {
     type State;
+    /// A state opened up.
+    type Fields;
     fn digest(bytes: &[u8]) -> Hash;
     /// This state in the side's own form.
     fn state(state: &reference::State) -> Self::State;
@@ -64,12 +69,16 @@ trait Side {
     fn open(list: &[u8], lengths: Lengths) -> Result<Self::State, usize>;
     /// How the call ended, and the bytes it took.
     fn call(list: &[u8], areas: Areas, piece: &[u8], state: &mut Self::State) -> (Outcome, usize);
+    fn fields() -> Self::Fields;
+    /// Opens a state up, and makes its saved form again.
+    fn read_and_write(form: &Form, fields: &mut Self::Fields, out: &mut Form);
     /// Nothing, or the refusal's number.
     fn load_sparse(file: &[u8], image: &mut [u8]) -> Result<(), usize>;
 }
 
 impl Side for Library {
     type State = muongrabi::State;
+    type Fields = ([u8; raw::TABLE_BYTES], [usize; MOST_STASHES], [usize; raw::NUMBERS]);
     fn digest(bytes: &[u8]) -> Hash {
         muongrabi::digest(bytes)
     }
@@ -83,6 +92,13 @@ impl Side for Library {
         let called = muongrabi::call(list, areas, piece, state);
         (outcome_of(called.outcome), called.taken)
     }
+    fn fields() -> Self::Fields {
+        ([0; raw::TABLE_BYTES], [0; MOST_STASHES], [0; raw::NUMBERS])
+    }
+    fn read_and_write(form: &Form, (hashes, sizes, numbers): &mut Self::Fields, out: &mut Form) {
+        assert_eq!(raw::restore(form, hashes, sizes, numbers), 0);
+        raw::save(hashes, sizes, numbers, out);
+    }
     fn load_sparse(file: &[u8], image: &mut [u8]) -> Result<(), usize> {
         muongrabi::load_sparse(file, image).map_err(|refusal| refusal.number())
     }
@@ -90,6 +106,7 @@ impl Side for Library {
 
 impl Side for Plain {
     type State = reference::State;
+    type Fields = reference::State;
     fn digest(bytes: &[u8]) -> Hash {
         digest(bytes)
     }
@@ -107,6 +124,13 @@ impl Side for Plain {
         let Areas { image, stash, work, result, patch } = areas;
         let called = plain::call(list, reference::Areas { image, stash, work, result, patch }, piece, state);
         (called.outcome, called.taken)
+    }
+    fn fields() -> reference::State {
+        reference::State::ZERO
+    }
+    fn read_and_write(form: &Form, fields: &mut reference::State, out: &mut Form) {
+        *fields = saved::restore(form).expect("a saved form");
+        out.copy_from_slice(&saved::save(fields));
     }
     fn load_sparse(file: &[u8], image: &mut [u8]) -> Result<(), usize> {
         plain::load_sparse(file, image)
@@ -538,6 +562,25 @@ fn call_times<S: Side>(list: &[u8], state: &reference::State) -> Duration {
     let mut areas = Areas { image: &mut area(image), stash: &mut area(stash), work: &mut area(work), result: &mut [], patch: &[] };
     let mut state = S::state(state);
     timed(|| (0..CALLS).for_each(|_| assert_eq!(S::call(black_box(list), areas.reborrow(), &[], &mut state), (Outcome::More, 0)))) / CALLS
+}
+
+/// A saved form read and written, as each call of the library does with its state. Of plain Rust's times above it is no part.
+fn saved_forms<S: Side>() {
+    let mut state = reference::State { count: MOST_STASHES, line: 5, at: 8, ..reference::State::ZERO };
+    state.hashes.copy_from_slice(&some_bytes(20 * MOST_STASHES));
+    state.sizes = std::array::from_fn(|k| k + 1);
+    let form = saved::save(&state).try_into().expect("as many bytes as a saved form has");
+    let times = turns(|| form_times::<S>(&form), || form_times::<Plain>(&form));
+    line(&format!("a saved form read and written, {MOST_STASHES} stashes"), times, 0);
+}
+
+/// One of a thousand times.
+fn form_times<S: Side>(form: &Form) -> Duration {
+    const TIMES: u32 = 1_000;
+    let (mut fields, mut out) = (S::fields(), [0; SAVED]);
+    let time = timed(|| (0..TIMES).for_each(|_| S::read_and_write(black_box(form), black_box(&mut fields), black_box(&mut out))));
+    assert!(out == *form, "the saved forms differ");
+    time / TIMES
 }
 
 fn new_data<S: Side>() {

@@ -11,6 +11,7 @@ impl Checker<'_> {
         let mut rng = Rng::of_case(seed, index);
         self.behind = rng.percent(70);
         self.thrice = rng.one_in(4);
+        self.crossing = rng.one_in(3);
         if rng.one_in(20) {
             self.digest(&mut rng)?;
         }
@@ -128,7 +129,7 @@ impl Checker<'_> {
                 let answer = if troubled { self.troubled(rng, world, &mut lent, piece, state)? } else { self.call(&mut lent, piece, state)? };
                 self.coverage.after_done += done as u64;
                 done |= answer.outcome == Outcome::Done;
-                state = self.kept(rng, answer)?;
+                state = self.kept(rng, &lent, answer)?;
                 piece = &piece[answer.taken..];
                 if answer.outcome != Outcome::Stop {
                     break;
@@ -158,9 +159,12 @@ impl Checker<'_> {
     }
 
     /// The state that a call left, now and then saved and read back.
-    fn kept(&mut self, rng: &mut Rng, answer: Answer) -> Result<State, String> {
+    fn kept(&mut self, rng: &mut Rng, lent: &Lent, answer: Answer) -> Result<State, String> {
         if !rng.one_in(if answer.outcome == Outcome::Stop { 6 } else { 20 }) {
             return Ok(answer.state);
+        }
+        if rng.one_in(3) {
+            self.unmarked(rng, lent, &answer.state)?;
         }
         self.coverage.stops.went_on();
         self.restored(rng, answer.state)

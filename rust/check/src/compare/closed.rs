@@ -23,6 +23,7 @@ const MOVE: Open = [Use::Write, Use::Nothing, Use::Read, Use::Nothing, Use::Noth
 const BSDIFF: Open = [Use::Write, Use::Nothing, Use::Nothing, Use::Read, Use::Nothing];
 const STASH: Open = [Use::Nothing, Use::Write, Use::Read, Use::Nothing, Use::Nothing];
 const FREE: Open = [Use::Nothing, Use::Write, Use::Nothing, Use::Nothing, Use::Nothing];
+const NOTHING: Open = [Use::Nothing, Use::Nothing, Use::Nothing, Use::Nothing, Use::Nothing];
 
 impl Checker<'_> {
     /// Runs a list line by line and stop by stop: lines that are finished, those that are ready and stretches over closed memory.
@@ -100,8 +101,16 @@ impl Checker<'_> {
         }
     }
 
-    fn open_again(&mut self) {
-        for area in [&mut self.image, &mut self.stash, &mut self.work, &mut self.result, &mut self.patch] {
+    /// Areas, patch data, list and piece are closed.
+    pub(super) fn close_all(&mut self) {
+        self.close(&NOTHING);
+        self.list.close(false);
+        self.piece.close(false);
+    }
+
+    pub(super) fn open_again(&mut self) {
+        let Checker { image, stash, work, result, patch, list, piece, form, .. } = self;
+        for area in [image, stash, work, result, patch, list, piece, form] {
             area.open();
         }
     }

@@ -2,6 +2,7 @@
 
 mod case;
 mod closed;
+mod form;
 mod lines;
 mod odd;
 mod reading;
@@ -13,6 +14,7 @@ use crate::generate::{Blocks, Pieces};
 use crate::guard::Guarded;
 use crate::{hex, Implementation, Model, Plain};
 pub use lines::LineChecker;
+use reference::saved::SAVED;
 use reference::{Answer, Areas, Outcome, Rooms, State, BLOCK};
 pub use sparse::SparseChecker;
 use std::fmt::Write;
@@ -71,9 +73,13 @@ pub struct Checker<'a> {
     result: Guarded,
     patch: Guarded,
     piece: Guarded,
+    /// A state's saved form, where calls are made as they cross.
+    form: Guarded,
     behind: bool,
     /// Each call is made by the slow model too.
     thrice: bool,
+    /// Each opening, call and run is made as it crosses too.
+    crossing: bool,
     blocks: Blocks,
     made_up: Blocks,
     log: Option<String>,
@@ -141,8 +147,10 @@ impl<'a> Checker<'a> {
             result: room(),
             patch: room(),
             piece: room(),
+            form: Guarded::new(SAVED),
             behind: true,
             thrice: false,
+            crossing: false,
             blocks: Blocks::new(),
             made_up: Blocks::made_up(),
             log: None,
@@ -174,6 +182,9 @@ impl<'a> Checker<'a> {
         });
         if ours != theirs {
             return Err(format!("open differs: plain {:?}, other {:?}", ours.refusal, theirs.refusal));
+        }
+        if self.crossing {
+            self.open_crossing(rooms, &ours)?;
         }
         if let Some(number) = reading::turned(list, rooms, &ours)? {
             self.coverage.given_before[number] += 1;
@@ -224,6 +235,7 @@ impl<'a> Checker<'a> {
             format!("call: {}\n  piece {}\n{text}\n  state {}", lent.text(), hex(piece), state_text(&state))
         });
         let mut third = self.thrice.then(|| lent.clone());
+        let before = self.crossing.then(|| lent.clone());
         let (list, areas) = lent.areas();
         let kept = Kept::of(list, &areas, &state);
         let ours = Plain.call(list, areas, piece, state);
@@ -239,6 +251,9 @@ impl<'a> Checker<'a> {
         let theirs = other.call(list, areas, others_piece, state);
         self.note(|| format!("  plain: {}\n  other: {}", answer_text(&ours), answer_text(&theirs)));
         self.same(lent, piece, &ours, &theirs, "call")?;
+        if let Some(before) = before {
+            self.call_crossing(&before, lent, piece, &state, &ours)?;
+        }
         let (list, areas) = lent.areas();
         self.coverage.call(list, &areas, piece, kept, &state, &ours);
         Ok(ours)
@@ -255,6 +270,11 @@ impl<'a> Checker<'a> {
         if ours.state != theirs.state {
             wrong.push("the state".into());
         }
+        self.same_lent(lent, piece, wrong, what)
+    }
+
+    /// Nothing is wrong, and the other has in all that it was lent what the plain one has.
+    fn same_lent(&mut self, lent: &Lent, piece: &[u8], mut wrong: Vec<String>, what: &str) -> Result<(), String> {
         let areas = [
             ("image", &lent.image[..], self.image.bytes()),
             ("stash", &lent.stash, self.stash.bytes()),
@@ -296,6 +316,10 @@ impl<'a> Checker<'a> {
             let (ours, theirs) = (answer_text(&ours), answer_text(&theirs));
             format!("run: {}\n  data {}\n  cuts {cuts:?}\n  plain: {ours}\n  other: {theirs}", lent.text(), hex(data))
         });
-        self.same(&fresh, data, &ours, &theirs, "run")
+        self.same(&fresh, data, &ours, &theirs, "run")?;
+        if self.crossing {
+            self.run_crossing(lent, &fresh, pieces, &ours)?;
+        }
+        Ok(())
     }
 }

@@ -3,8 +3,9 @@
 // No file of tests has a use for all of it.
 #![allow(dead_code)]
 
+use check::generate::Rng;
 use check::{hex, Implementation, Library, Model, Plain};
-use reference::{digest, Answer, Areas, Outcome, Refusal, Rooms, State, BLOCK};
+use reference::{digest, Answer, Areas, Lengths, Outcome, Refusal, Rooms, State, BLOCK};
 
 pub fn all() -> [&'static dyn Implementation; 3] {
     [&Plain, &Model, &Library]
@@ -117,4 +118,22 @@ pub fn refused(number: usize, line: usize) -> Outcome {
 /// One without a byte: of a number that is neither 3 nor 6.
 pub fn refusal_of(number: usize, line: usize) -> Refusal {
     Refusal { number, line, byte: 0 }
+}
+
+/// A state of which no two bytes are in the same place and the same, save by chance.
+pub fn full_state(rng: &mut Rng) -> State {
+    let mut next = || rng.next_u64() as usize;
+    State {
+        hashes: std::array::from_fn(|_| next() as u8),
+        sizes: std::array::from_fn(|_| next()),
+        count: next(),
+        line: next(),
+        at: next(),
+        into: next(),
+        refusal: Refusal { number: next(), line: next(), byte: next() },
+        lengths: Lengths { list: next(), image: next(), stash: next(), work: next(), result: next(), patch: next() },
+        total: next() as u64,
+        ready: next(),
+        stretches: next(),
+    }
 }

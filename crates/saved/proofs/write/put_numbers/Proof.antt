@@ -5,8 +5,9 @@ use mathlib.Core.Path.{_≡_, refl}
 use mathlib.Core.List.{_++_}
 use native.Mathlib.Omega.{arith}
 use lib.ListN.{length, take, drop}
-use Rattle.saved.specs.Layout.{markBytes, wordBytes}
+use Rattle.saved.specs.Layout.{markBytes, wordBytes, wordBound}
 use Rattle.saved.specs.Saved.{wordsOf}
+use Rattle.saved.proofs.WordLaws.{below-each}
 use Rattle.saved.proofs.PutLaws.{number-put, numbers-put, record-put}
 use Rattle.saved.proofs.write.put_numbers.Statement.{statement}
 use Rattle.saved.proofs.write.put_numbers.Tie as tie
@@ -66,11 +67,14 @@ returns : tie.Need-returns Inv-loop μ-loop
 returns c =
     let l = c .before .loop in
     let m = c .before .before .before .before in
-    let a = m .before .before .before .before .args in
-    let e : l .k ≡ a .at + markBytes + wordBytes * length (a .from .now) = omega arith in
-    record-put (a .to .now) (m .put-mark .last .0) (l .to) (wordsOf (a .from .now)) (a .at) (wordBytes * length (a .from .now)) (a .letter)
-    (m .put-mark .ensures)
-    (rw e at (numbers-put (l .to) (take (a .at + markBytes) (m .put-mark .last .0) ++ wordsOf (a .from .now)) (a .from .now) (l .k) (l .i) (omega arith) (l .inv .3)))
+    let k = m .before .before in
+    let a = k .before .before .args in
+    let e : l .k ≡ a .at + markBytes + wordBytes * length (a .from .now) = omega arith in (
+      record-put (a .to .now) (m .put-mark .last .0) (l .to) (wordsOf (a .from .now)) (a .at) (wordBytes * length (a .from .now)) (a .letter)
+          (m .put-mark .ensures)
+          (rw e at (numbers-put (l .to) (take (a .at + markBytes) (m .put-mark .last .0) ++ wordsOf (a .from .now)) (a .from .now) (l .k) (l .i) (omega arith) (l .inv .3))),
+      below-each wordBound (a .from .now) (λ i. omega (arith, k .shared-slice-known .given i)),
+    )
 
 pub put-numbers-spec : {M : Type 1} → statement M
 put-numbers-spec =

@@ -1,19 +1,23 @@
 -- What crosses to C and Rust: a state as its saved form, and the outcomes of documents 01 and 02 as numbers.
 -- Assumes nothing: these are definitions.
 use Prim.Native.Nat.{ℕ}
-use mathlib.Core.List.{List, [], _∷_}
+use mathlib.Core.Path.{_≡_}
+use mathlib.Core.List.{List, [], _∷_, _++_}
 use lib.Dec.{eqb}
 use Rattle.text.specs.Choice.{pick}
 use Rattle.ranges.specs.Ranges.{leastBlocks}
 use Rattle.state.specs.Refusals.{none, noSavedForm}
 use Rattle.state.specs.States.{refusing}
+use Rattle.state.specs.declared.Lengths.{Lengths}
 use Rattle.state.specs.declared.State.{State}
+use Rattle.transfer_list.specs.Opening.{openState}
 use Rattle.updater.specs.Areas.{Areas}
 use Rattle.updater.specs.Calls.{Result, callOf}
 use Rattle.updater.specs.Steps.{configOf}
 use Rattle.updater.specs.declared.Outcome.{Outcome}
 use Rattle.updater.specs.declared.Outcome.the-variants.{Done, More, Stop, Refused}
-use Rattle.saved.specs.Restored.{answered, restoredOf}
+use Rattle.sequence.specs.Cuts.{runAll}
+use Rattle.saved.specs.Restored.{restoredAs, restoredOf}
 use Rattle.saved.specs.Saved.{refusalNumbers, savedOf}
 use Rattle.saved.specs.declared.Restored.{Restored}
 
@@ -45,10 +49,17 @@ refusalByte More = 0
 refusalByte Stop = 0
 refusalByte (Refused refusal) = refusal .byte
 
--- outcome; number, line and byte of the refusal; bytes taken
+-- outcome; number, line and byte of the refusal
+abbrev pub outcomeNumbers : Outcome → List ℕ
+outcomeNumbers outcome = outcomeNumber outcome ∷ refusalNumber outcome ∷ refusalLine outcome ∷ refusalByte outcome ∷ []
+
+-- .. and the bytes taken
 abbrev pub answerOf : Outcome → ℕ → List ℕ
-answerOf outcome taken =
-    outcomeNumber outcome ∷ refusalNumber outcome ∷ refusalLine outcome ∷ refusalByte outcome ∷ taken ∷ []
+answerOf outcome taken = outcomeNumbers outcome ++ (taken ∷ [])
+
+-- no two outcomes, and no two numbers of bytes, have the same answer
+abbrev pub Told : Type 0
+Told = (o p : Outcome) (n m : ℕ) → answerOf o n ≡ answerOf p m → (o ≡ p) × (n ≡ m)
 
 -- ---- an opening
 
@@ -63,7 +74,11 @@ openedAs state answer = record { state = state; read = restoredOf state; answer 
 
 -- the state's saved form, which is read back as that state; number, line and byte of the refusal that it holds
 abbrev pub openingOf : State → Opened
-openingOf s = record { state = savedOf s; read = answered s; answer = refusalNumbers (s .refusal) }
+openingOf s = record { state = savedOf s; read = restoredAs s; answer = refusalNumbers (s .refusal) }
+
+-- what an opening over areas and patch data of these lengths leaves and answers
+abbrev pub Opens : List ℕ → Lengths → List ℕ → List ℕ → Type 0
+Opens s lengths state answer = openedAs state answer ≡ openingOf (openState leastBlocks s lengths)
 
 -- ---- a call
 
@@ -83,7 +98,7 @@ answerTo r =
     record {
       areas = r .areas;
       state = savedOf (r .called .state);
-      read = answered (r .called .state);
+      read = restoredAs (r .called .state);
       answer = answerOf (r .called .outcome) (r .called .taken);
     }
 
@@ -97,3 +112,11 @@ calledOver s piece areas bytes =
     pick (eqb (restoredOf bytes .number) none)
     (answerTo (callOf leastBlocks s piece (configOf areas (restoredOf bytes .state))))
     (notSaved areas bytes)
+
+-- what a call with a piece, over these areas and these bytes as the state, leaves and answers
+abbrev pub Calls : List ℕ → List ℕ → Areas → List ℕ → Areas → List ℕ → List ℕ → Type 0
+Calls s piece lent bytes areas state answer = answeredAs areas state answer ≡ calledOver s piece lent bytes
+
+-- the same of an opening and its calls over all the bytes, whatever the state held
+abbrev pub Runs : List ℕ → List ℕ → Areas → Areas → List ℕ → List ℕ → Type 0
+Runs s bytes lent areas state answer = answeredAs areas state answer ≡ answerTo (runAll s lent bytes)

@@ -1,15 +1,19 @@
 -- What a state holds, in the open, for C and Rust: its two tables, and all its other numbers in the order of its saved form.
 -- Assumes nothing: these are definitions.
-use Prim.Native.Nat.{ℕ}
+use Prim.Native.Nat.{ℕ, _+_}
+use mathlib.Core.Path.{_≡_}
 use mathlib.Core.List.{List, _++_}
 use lib.Dec.{eqb}
-use lib.ListN.{getD}
+use lib.ListN.{length, getD}
+use Rattle.text.specs.Below.{AllBelow}
 use Rattle.text.specs.Choice.{pick}
 use Rattle.state.specs.Refusals.{none, noSavedForm}
+use Rattle.state.specs.States.{stateWith}
 use Rattle.state.specs.declared.Progress.{Progress}
 use Rattle.state.specs.declared.State.{State}
+use Rattle.saved.specs.Layout.{progressCount, refusalCount, lengthCount}
 use Rattle.saved.specs.Restored.{restoredOf}
-use Rattle.saved.specs.Saved.{progressNumbers, refusalNumbers, lengthNumbers}
+use Rattle.saved.specs.Saved.{progressNumbers, refusalNumbers, lengthNumbers, FormOf}
 
 -- the numbers of a state
 abbrev pub numbersOf : State → List ℕ
@@ -56,3 +60,14 @@ fieldsOf s = fieldsAs none (s .hashes) (s .sizes) (numbersOf s)
 unfoldable pub fieldsOver : List ℕ → List ℕ → List ℕ → List ℕ → Fields
 fieldsOver hashes sizes numbers bytes =
     pick (eqb (restoredOf bytes .number) none) (fieldsOf (restoredOf bytes .state)) (fieldsAs noSavedForm hashes sizes numbers)
+
+-- how many numbers a state has besides its tables
+abbrev pub numberCount : ℕ
+numberCount = progressCount + (refusalCount + lengthCount)
+
+-- document 02, R-9, by fields: what is saved is read back, and gives the same bytes again
+pub record FieldsClaim : Type 0 where
+  pub saved-read : (hashes sizes numbers b : List ℕ) → length numbers ≡ numberCount → FormOf b (stateWith hashes sizes (progressWith numbers)) →
+      (h z n : List ℕ) → fieldsOver h z n b ≡ fieldsAs none hashes sizes numbers
+  pub read-saved : (b h z n : List ℕ) → AllBelow 256 b → fieldsOver h z n b .number ≡ none →
+      FormOf b (stateWith (fieldsOver h z n b .hashes) (fieldsOver h z n b .sizes) (progressWith (fieldsOver h z n b .numbers)))

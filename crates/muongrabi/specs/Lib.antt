@@ -1,4 +1,3 @@
 pub mod Abi
 pub mod Answers
 pub mod Fields
-pub mod Sequence

@@ -3,15 +3,13 @@
 ghost use mathlib.Core.Path.{_≡_};
 ghost use lib.ListN.{length};
 ghost use Rattle.sha1.specs.Sha1.{sha1};
-ghost use Rattle.ranges.specs.Ranges.{leastBlocks};
 ghost use Rattle.state.specs.States.{stateWith};
-ghost use Rattle.transfer_list.specs.Opening.{lengthsOf, openState};
+ghost use Rattle.transfer_list.specs.Opening.{lengthsOf};
 ghost use Rattle.updater.specs.Areas.{areasOf};
-ghost use Rattle.sequence.specs.Cuts.{runAll};
 ghost use Rattle.saved.specs.Saved.{FormOf};
 ghost use Rattle.sparse.specs.Loading.{loadRefusal, loadedImage};
 ghost use Rattle.muongrabi.specs.Abi.{abi};
-ghost use Rattle.muongrabi.specs.Answers.{answerOf, openedAs, openingOf, answeredAs, answerTo, calledOver};
+ghost use Rattle.muongrabi.specs.Answers.{answerOf, Opens, Calls, Runs};
 ghost use Rattle.muongrabi.specs.Fields.{progressWith, fieldsAs, fieldsOver};
 use saved::SAVED_BYTES;
 use saved::restore_in_place;
@@ -114,7 +112,7 @@ pub extern "C" fn muongrabi_open(
     state: &mut [u8; SAVED_BYTES],
     answer: &mut [u64; OPENING_NUMBERS],
 )
-    ensures { λ _. ⌜ openedAs (now (state .exit)) (now (answer .exit)) ≡ openingOf (openState leastBlocks (now (list .entry)) (lengthsOf (now (list .entry)) image stash work result patch)) ⌝ }
+    ensures { λ _. ⌜ Opens (now (list .entry)) (lengthsOf (now (list .entry)) image stash work result patch) (now (state .exit)) (now (answer .exit)) ⌝ }
 {
     let opened = transfer_list::open(list, image, stash, work, result, patch);
     let refused = opened.refusal;
@@ -140,7 +138,7 @@ pub extern "C" fn muongrabi_call(
     state: &mut [u8; SAVED_BYTES],
     answer: &mut [u64; ANSWER_NUMBERS],
 )
-    ensures { λ _. ⌜ answeredAs (areasOf (now (image .exit)) (now (stash .exit)) (now (work .exit)) (now (result .exit)) (now (patch .entry))) (now (state .exit)) (now (answer .exit)) ≡ calledOver (now (list .entry)) (now (piece .entry)) (areasOf (now (image .entry)) (now (stash .entry)) (now (work .entry)) (now (result .entry)) (now (patch .entry))) (now (state .entry)) ⌝ }
+    ensures { λ _. ⌜ Calls (now (list .entry)) (now (piece .entry)) (areasOf (now (image .entry)) (now (stash .entry)) (now (work .entry)) (now (result .entry)) (now (patch .entry))) (now (state .entry)) (areasOf (now (image .exit)) (now (stash .exit)) (now (work .exit)) (now (result .exit)) (now (patch .entry))) (now (state .exit)) (now (answer .exit)) ⌝ }
 {
     let mut hashes = [0u8; TABLE_BYTES];
     let mut sizes = [0usize; MOST_STASHES];
@@ -188,7 +186,7 @@ pub extern "C" fn muongrabi_run(
     state: &mut [u8; SAVED_BYTES],
     answer: &mut [u64; ANSWER_NUMBERS],
 )
-    ensures { λ _. ⌜ answeredAs (areasOf (now (image .exit)) (now (stash .exit)) (now (work .exit)) (now (result .exit)) (now (patch .entry))) (now (state .exit)) (now (answer .exit)) ≡ answerTo (runAll (now (list .entry)) (areasOf (now (image .entry)) (now (stash .entry)) (now (work .entry)) (now (result .entry)) (now (patch .entry))) (now (bytes .entry))) ⌝ }
+    ensures { λ _. ⌜ Runs (now (list .entry)) (now (bytes .entry)) (areasOf (now (image .entry)) (now (stash .entry)) (now (work .entry)) (now (result .entry)) (now (patch .entry))) (areasOf (now (image .exit)) (now (stash .exit)) (now (work .exit)) (now (result .exit)) (now (patch .entry))) (now (state .exit)) (now (answer .exit)) ⌝ }
 {
     let ran = run_pieces(list, image, stash, work, result, patch, bytes, cuts);
     let last = ran.state;

@@ -21,7 +21,7 @@ use Rattle.saved.specs.Layout.{progressCount, refusalCount, lengthCount}
 use Rattle.saved.specs.Layout.{hashesAt, sizesAt, progressAt, refusalAt, lengthsAt, savedBytes}
 use Rattle.saved.specs.Saved.{wordsOf, recordOf, progressNumbers, refusalNumbers, lengthNumbers, Typed, FormOf}
 use Rattle.saved.specs.Saved.{hashesRecord, sizesRecord, progressRecord, refusalRecord, lengthsRecord, savedOf}
-use Rattle.saved.specs.Restored.{hasMark, isSaved, numbersAt, stateIn, noState, answered, refused, restoredOf}
+use Rattle.saved.specs.Restored.{hasMark, isSaved, numbersAt, stateIn, noState, restoredAs, refused, restoredOf}
 use Rattle.saved.specs.Claim.{SavedClaim}
 use Rattle.saved.proofs.WordLaws.{length-words, numbers-words, words-numbers, below-part}
 use Rattle.saved.proofs.ReadLaws.{saved-length}
@@ -174,7 +174,7 @@ module _ (s : State) (t : Typed s) where
         ap (at 5) l,
       )
 
-  read-back : restoredOf (savedOf s) ≡ answered s
+  read-back : restoredOf (savedOf s) ≡ restoredAs s
   unfolding restoredOf
   read-back = rw (saved-is, state-back)
 
@@ -263,7 +263,7 @@ own-form : (b : List ℕ) → AllBelow 256 b → restoredOf b .number ≡ none �
 unfolding restoredOf
 own-form b h e = go (isSaved b) refl e
   where
-    go : (t : Bool) → isSaved b ≡ t → pick t (answered (stateIn b)) refused .number ≡ none → FormOf b (pick t (answered (stateIn b)) refused .state)
+    go : (t : Bool) → isSaved b ≡ t → pick t (restoredAs (stateIn b)) refused .number ≡ none → FormOf b (pick t (restoredAs (stateIn b)) refused .state)
     go true is e = record { typed = typed b h is; form = saved-again b h is }
     go false is e = absurd (omega arith)
 
@@ -271,7 +271,7 @@ one-number : (b : List ℕ) → (restoredOf b .number ≡ none) ⊎ (restoredOf 
 unfolding restoredOf
 one-number b = go (isSaved b)
   where
-    go : (t : Bool) → (pick t (answered (stateIn b)) refused .number ≡ none) ⊎ (pick t (answered (stateIn b)) refused .number ≡ noSavedForm)
+    go : (t : Bool) → (pick t (restoredAs (stateIn b)) refused .number ≡ none) ⊎ (pick t (restoredAs (stateIn b)) refused .number ≡ noSavedForm)
     go true = inl refl
     go false = inr refl
 
@@ -279,7 +279,7 @@ no-state : (b : List ℕ) → restoredOf b .number ≡ noSavedForm → restoredO
 unfolding restoredOf
 no-state b e = go (isSaved b) e
   where
-    go : (t : Bool) → pick t (answered (stateIn b)) refused .number ≡ noSavedForm → pick t (answered (stateIn b)) refused .state ≡ noState
+    go : (t : Bool) → pick t (restoredAs (stateIn b)) refused .number ≡ noSavedForm → pick t (restoredAs (stateIn b)) refused .state ≡ noState
     go true e = absurd (omega arith)
     go false e = refl
 

@@ -14,7 +14,7 @@ use Rattle.little_endian.specs.LittleEndian.{eightAt}
 use Rattle.state.specs.Refusals.{none, noSavedForm}
 use Rattle.state.specs.States.{stateWith}
 use Rattle.saved.specs.Layout.{wordBytes, savedBytes}
-use Rattle.saved.specs.Restored.{isSaved, numbersAt, stateIn, answered, refused, restoredOf, noProgress, restoredOver}
+use Rattle.saved.specs.Restored.{isSaved, numbersAt, stateIn, restoredAs, refused, restoredOf, noProgress, restoredOver}
 use Rattle.copy.specs.Over.{front}
 use Rattle.copy.proofs.OverLaws.{front-fits}
 use Rattle.saved.proofs.PutLaws.{put-one}
@@ -56,8 +56,8 @@ module _ (hashes sizes b : List ℕ) where
   over-number = go (isSaved b)
     where
       go : (t : Bool) →
-          pick t (answered (stateIn b)) (record { number = noSavedForm; state = stateWith hashes sizes noProgress }) .number
-          ≡ pick t (answered (stateIn b)) refused .number
+          pick t (restoredAs (stateIn b)) (record { number = noSavedForm; state = stateWith hashes sizes noProgress }) .number
+          ≡ pick t (restoredAs (stateIn b)) refused .number
       go true = refl
       go false = refl
 
@@ -66,9 +66,9 @@ module _ (hashes sizes b : List ℕ) where
   unfolding restoredOver restoredOf
   over-read e = go (isSaved b) e
     where
-      go : (t : Bool) → pick t (answered (stateIn b)) refused .number ≡ none →
-          pick t (answered (stateIn b)) (record { number = noSavedForm; state = stateWith hashes sizes noProgress })
-          ≡ pick t (answered (stateIn b)) refused
+      go : (t : Bool) → pick t (restoredAs (stateIn b)) refused .number ≡ none →
+          pick t (restoredAs (stateIn b)) (record { number = noSavedForm; state = stateWith hashes sizes noProgress })
+          ≡ pick t (restoredAs (stateIn b)) refused
       go true e = refl
       go false e = absurd (omega arith)
 
@@ -78,8 +78,8 @@ module _ (hashes sizes b : List ℕ) where
   unfolding restoredOver restoredOf
   over-stays n = go (isSaved b) n
     where
-      go : (t : Bool) → (pick t (answered (stateIn b)) refused .number ≡ none → ⊥) →
-          pick t (answered (stateIn b)) (record { number = noSavedForm; state = stateWith hashes sizes noProgress })
+      go : (t : Bool) → (pick t (restoredAs (stateIn b)) refused .number ≡ none → ⊥) →
+          pick t (restoredAs (stateIn b)) (record { number = noSavedForm; state = stateWith hashes sizes noProgress })
           ≡ record { number = noSavedForm; state = stateWith hashes sizes noProgress }
       go true n = absurd (n refl)
       go false n = refl

@@ -11,7 +11,7 @@ use Rattle.state.specs.Refusals.{none, noSavedForm}
 use Rattle.state.specs.declared.State.{State}
 use Rattle.saved.specs.Layout.{wordBound, savedBytes}
 use Rattle.saved.specs.Saved.{progressNumbers, refusalNumbers, lengthNumbers, savedOf, Typed, FormOf}
-use Rattle.saved.specs.Restored.{answered, noState, restoredOf}
+use Rattle.saved.specs.Restored.{restoredAs, noState, restoredOf}
 
 pub record SavedClaim : Type 0 where
   -- no state is left out: tables of their lengths, bytes below 256 and numbers below 2^64 are all that is asked
@@ -20,7 +20,7 @@ pub record SavedClaim : Type 0 where
       AllBelow wordBound (lengthNumbers (s .lengths)) → Typed s
   -- every state's saved form has the one length, and is read back as that state
   pub one-length : (s : State) → Typed s → length (savedOf s) ≡ savedBytes
-  pub read-back : (s : State) → Typed s → restoredOf (savedOf s) ≡ answered s
+  pub read-back : (s : State) → Typed s → restoredOf (savedOf s) ≡ restoredAs s
   -- a state is given only for its own saved form
   pub own-form : (b : List ℕ) → AllBelow 256 b → restoredOf b .number ≡ none → FormOf b (restoredOf b .state)
   -- 20 is the only other number; it comes with no state, and only where the bytes are no state's saved form

@@ -87,15 +87,16 @@ stateIn b = stateWith (hashesIn b) (sizesIn b) (progressIn b)
 abbrev pub noState : State
 noState = stateAt 0 0 noRefusal (record { list = 0; image = 0; stash = 0; work = 0; result = 0; patch = 0 })
 
-abbrev pub answered : State → Restored
-answered s = record { number = none; state = s }
+-- a state, with number 0
+abbrev pub restoredAs : State → Restored
+restoredAs s = record { number = none; state = s }
 
 abbrev pub refused : Restored
 refused = record { number = noSavedForm; state = noState }
 
 -- what bytes are read back as
 unfoldable pub restoredOf : List ℕ → Restored
-restoredOf b = pick (isSaved b) (answered (stateIn b)) refused
+restoredOf b = pick (isSaved b) (restoredAs (stateIn b)) refused
 
 -- ---- the same over tables that are lent
 
@@ -117,7 +118,7 @@ noProgress =
 abbrev pub restoredWith : List ℕ → List ℕ → RestoredProgress → Restored
 restoredWith hashes sizes r = record { number = r .number; state = stateWith hashes sizes (r .progress) }
 
--- with 20 the tables stay
+-- with 20 there is no state: the number says so, and the tables are those that were lent
 unfoldable pub restoredOver : List ℕ → List ℕ → List ℕ → Restored
 restoredOver hashes sizes b =
-    pick (isSaved b) (answered (stateIn b)) (record { number = noSavedForm; state = stateWith hashes sizes noProgress })
+    pick (isSaved b) (restoredAs (stateIn b)) (record { number = noSavedForm; state = stateWith hashes sizes noProgress })

@@ -41,7 +41,7 @@ pub struct Restored {
     pub state: State,
 }
 
-// The same where the tables of the stashes are lent.
+// The same where the tables of the stashes are lent: all else of the state.
 pub struct RestoredProgress {
     pub number: usize,
     pub progress: Progress,

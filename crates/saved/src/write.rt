@@ -33,7 +33,7 @@ fn put_word(to: &mut [u8], at: usize, x: usize)
     }
 }
 
-// The table of hashes after its mark.
+// The table of hashes after its mark. That its bytes are bytes is known here, where they are read, and wanted of a saved form.
 pub(crate) fn put_hashes(to: &mut [u8], at: usize, hashes: &[u8])
     requires { ⌜ at + (markBytes + length (now hashes)) ≤ length (now to) ⌝ }
     ensures { λ _. ⌜ take (at + (markBytes + length (now (hashes .entry)))) (now (to .exit))
@@ -45,7 +45,7 @@ pub(crate) fn put_hashes(to: &mut [u8], at: usize, hashes: &[u8])
     copy_in(&mut to[body..], hashes);
 }
 
-// Numbers after a mark.
+// Numbers after a mark. That they have 64 bits is known here, where they are read, and wanted of a saved form.
 pub(crate) fn put_numbers(to: &mut [u8], at: usize, letter: u8, from: &[usize])
     requires { ⌜ at + (markBytes + wordBytes * length (now from)) ≤ length (now to) ⌝ }
     ensures { λ _. ⌜ take (at + (markBytes + wordBytes * length (now (from .entry)))) (now (to .exit))

@@ -1,13 +1,14 @@
 -- Sequences of calls through the exports are those of the claim, call by call.
 -- Assumes nothing.
-use Prim.Native.Nat.{ℕ}
+use Prim.Native.Nat.{ℕ, _+_, _*_}
 use mathlib.Core.Path.{_≡_, refl, sym, ap, subst, _∙_}
 use mathlib.Core.Bool.{Bool, true, false}
-use mathlib.Core.List.{List, _∷_, _++_}
+use mathlib.Core.List.{List, [], _∷_, _++_}
 use native.Mathlib.Omega.{arith}
 use borrow.Author.Tests.{ne-eqb}
 use lib.Dec.{eqb}
-use lib.ListN.{getD}
+use lib.ListN.{length, getD, replicate}
+use Rattle.text.specs.Below.{AllBelow}
 use Rattle.text.specs.Choice.{pick, both}
 use Rattle.ranges.specs.Ranges.{leastBlocks}
 use Rattle.state.specs.Refusals.{none, stateImpossible}
@@ -16,21 +17,25 @@ use Rattle.state.specs.declared.State.{State}
 use Rattle.possible.specs.Possible.{isPossible}
 use Rattle.machine.specs.Pieces.{joined}
 use Rattle.updater.specs.Areas.{Areas}
+use Rattle.updater.specs.Run.{lineSteps}
 use Rattle.updater.specs.Calls.{outcomeOf, lengthsAt, isRun, leaves, takes, stops, says, callOf}
-use Rattle.updater.specs.Steps.{Config}
+use Rattle.updater.specs.Steps.{Config, configOf}
 use Rattle.updater.specs.declared.Outcome.{Outcome}
 use Rattle.updater.specs.declared.Outcome.the-variants.{Done, More, Stop, Refused}
-use Rattle.saved.specs.Restored.{answered, restoredOf}
+use Rattle.saved.specs.Restored.{restoredAs, restoredOf}
 use Rattle.saved.specs.declared.Restored.{Restored}
 use Rattle.saved.specs.Saved.{savedOf}
+use Rattle.saved.proofs.ClaimLaws.{claim as saved-claim}
 use Rattle.sequence.specs.Claim.{openedConfig, Accepted, NoStop, Holds}
 use Rattle.sequence.specs.Model.{model}
 use Rattle.sequence.specs.Sequence.{CallsMade, noCalls, pieceOf, nextCall, allCalls, lastSays, lastTakes}
 use Rattle.sequence.proofs.SequenceLaws.{outcome-no-stop}
 use Rattle.sequence.proofs.ClaimLaws.{claim}
-use Rattle.muongrabi.specs.Answers.{outcomeNumber, answerOf, openedAs, openingOf, Opened, Answered, answeredAs, answerTo}
-use Rattle.muongrabi.specs.Sequence.{Kept, keeping, outcomeIn, isStop, keepingOn, Calls, AllCalls, last, next, Follows, EndsAs, ExportClaim}
-use Rattle.muongrabi.proofs.AnswerLaws.{called-saved}
+use Rattle.restart.specs.Restart.{Standing}
+use Rattle.restart.proofs.ClaimLaws.{restart-claim}
+use Rattle.muongrabi.specs.Answers.{outcomeNumber, outcomeNumbers, answerOf, Opened, Answered, answeredAs, answerTo, Calls}
+use Rattle.muongrabi.proofs.AnswerLaws.{told, called-saved}
+use Rattle.boundary.specs.Sequence.{Kept, keeping, outcomeIn, takenIn, IsStop, keepingOn, AllCalls, last, next, Accepts, Follows, EndsAs, EndAlike, ExportClaim}
 
 -- ---- whether a call stopped is told by its answer
 
@@ -70,12 +75,12 @@ module _ (s piece : List ℕ) (p : Config) where
 -- what a caller keeps stands for what the calls of the claim made
 record Stands (c : Kept) (m : CallsMade) : Type 0 where
   areas : c .areas ≡ m .config .areas
-  read : restoredOf (c .state) ≡ answered (m .config .state)
+  read : restoredOf (c .state) ≡ restoredAs (m .config .state)
   rest : c .rest ≡ m .rest
   taken : c .taken ≡ m .taken
 
 module _ (s q : List ℕ) {c : Kept} {m : CallsMade} {areas : Areas} {state answer : List ℕ}
-    (v : Stands c m) (h : Calls s (c .rest ++ q) c areas state answer) where
+    (v : Stands c m) (h : Calls s (c .rest ++ q) (c .areas) (c .state) areas state answer) where
   abbrev piece : List ℕ
   piece = pieceOf m q
 
@@ -93,7 +98,7 @@ module _ (s q : List ℕ) {c : Kept} {m : CallsMade} {areas : Areas} {state answ
   unfolding callOf
   call-state = ap (λ (x : Answered). x .state) called
 
-  call-read : restoredOf state ≡ answered (leaves leastBlocks s piece (m .config) .state)
+  call-read : restoredOf state ≡ restoredAs (leaves leastBlocks s piece (m .config) .state)
   unfolding callOf
   call-read = ap (λ (x : Answered). x .read) called
 
@@ -124,7 +129,7 @@ all-end s {q = q} m v (next h k) =
     let e = all-end s (nextCall leastBlocks s q m) (call-stands s q v h) k in
     record { stands = e .stands; state = e .state; answer = e .answer }
 
-follows : (s : List ℕ) (p : Config) (state : List ℕ) → restoredOf state ≡ answered (p .state) →
+follows : (s : List ℕ) (p : Config) (state : List ℕ) → restoredOf state ≡ restoredAs (p .state) →
     (q : List ℕ) (qs : List (List ℕ)) {d : Kept} {said : List ℕ} → AllCalls s (keeping (p .areas) state) q qs d said → Follows s p q qs d said
 follows s p state r q qs k =
     let e = all-end s (noCalls p) (record { areas = refl; read = r; rest = refl; taken = refl }) k in
@@ -137,26 +142,73 @@ follows s p state r q qs k =
       answer = e .answer;
     }
 
-agrees : (s : List ℕ) (a : Areas) (state answer : List ℕ) → openedAs state answer ≡ openingOf (openedConfig s a .state) → getD answer 0 0 ≡ none →
-    (q : List ℕ) (qs : List (List ℕ)) {d : Kept} {said : List ℕ} → AllCalls s (keeping a state) q qs d said → (isStop said → ⊥) →
+-- ---- after an opening
+
+module _ (s : List ℕ) (a : Areas) (state : List ℕ) (o : Accepts s a state) where
+  opened-read : restoredOf state ≡ restoredAs (openedConfig s a .state)
+  opened-read = ap (λ (x : Opened). x .read) (o .opens)
+
+  opened-accepted : Accepted s a
+  opened-accepted = claim .decided s a (sym (ap (λ (x : Opened). getD (x .answer) 0 0) (o .opens)) ∙ o .accepted)
+
+-- an answer that is none of a stop
+goes-on : {s : List ℕ} {p : Config} {q : List ℕ} {qs : List (List ℕ)} {d : Kept} {said : List ℕ} → Follows s p q qs d said → (IsStop said → ⊥) →
+    NoStop (lastSays leastBlocks s q qs (noCalls p))
+goes-on f g e = g (ap (λ (x : List ℕ). getD x 0 0) (f .answer) ∙ ap outcomeNumber e)
+
+agrees : (s : List ℕ) (a : Areas) (state : List ℕ) → Accepts s a state →
+    (q : List ℕ) (qs : List (List ℕ)) {d : Kept} {said : List ℕ} → AllCalls s (keeping a state) q qs d said → (IsStop said → ⊥) →
     EndsAs s a d said (model leastBlocks s a (joined (q ∷ qs)))
-agrees s a state answer o n q qs {d} {said} k g =
-    let first = openedConfig s a in
-    let f = follows s first state (ap (λ (x : Opened). x .read) o) q qs k in
-    let accepted : Accepted s a = claim .decided s a (sym (ap (λ (x : Opened). getD (x .answer) 0 0) o) ∙ n) in
-    let goes : NoStop (lastSays leastBlocks s q qs (noCalls first)) =
-    λ e. g (ap outcomeIn (f .answer) ∙ ap outcomeNumber e) in
-    let w = claim .agrees s a accepted q qs goes in
+agrees s a state o q qs k g =
+    let f = follows s (openedConfig s a) state (opened-read s a state o) q qs k in
+    let w = claim .agrees s a (opened-accepted s a state o) q qs (goes-on f g) in
     record {
       areas = f .areas ∙ w .areas;
       number = ap (λ (x : Restored). x .number) (f .read);
       state =
           subst (λ (x : State). Holds (lengthsAt s a) x (model leastBlocks s a (joined (q ∷ qs))))
           (sym (ap (λ (x : Restored). x .state) (f .read))) (w .state);
-      outcome = rw (f .answer, w .outcome);
+      outcome = ap outcomeIn (f .answer) ∙ ap outcomeNumbers (w .outcome);
       taken = f .taken ∙ w .taken;
     }
 
+ends : (s : List ℕ) (a : Areas) (state : List ℕ) → Accepts s a state →
+    (q : List ℕ) (qs : List (List ℕ)) {d : Kept} {said : List ℕ} →
+    AllCalls s (keeping a state) q (qs ++ replicate (lineSteps * (length s + 1)) []) d said → IsStop said → ⊥
+ends s a state o q qs k e =
+    let rest = qs ++ replicate (lineSteps * (length s + 1)) [] in
+    let f = follows s (openedConfig s a) state (opened-read s a state o) q rest k in
+    claim .ends s a (opened-accepted s a state o) q qs
+    (number-stop (lastSays leastBlocks s q rest (noCalls (openedConfig s a))) (sym (ap (λ (x : List ℕ). getD x 0 0) (f .answer)) ∙ e))
+
+restarts : (s : List ℕ) (a : Areas) (opened : List ℕ) → Accepts s a opened → {bytes xs : List ℕ} {p : Config} → Standing s a bytes xs p →
+    (state : List ℕ) → restoredOf state ≡ restoredAs (p .state) →
+    (q : List ℕ) (qs : List (List ℕ)) {d : Kept} {said : List ℕ} → joined (q ∷ qs) ≡ xs →
+    AllCalls s (keeping (p .areas) state) q qs d said → (IsStop said → ⊥) →
+    (r : List ℕ) (rs : List (List ℕ)) {e : Kept} {other : List ℕ} → joined (r ∷ rs) ≡ bytes →
+    AllCalls s (keeping a opened) r rs e other → (IsStop other → ⊥) → EndAlike d e said other
+restarts s a opened o {p = p} z state b q qs j k g r rs i l h =
+    let f = follows s p state b q qs k in
+    let w = follows s (openedConfig s a) opened (opened-read s a opened o) r rs l in
+    let x = restart-claim .restarts s a (opened-accepted s a opened o) z q qs j (goes-on f g) r rs i (goes-on w h) in
+    record {
+      areas = f .areas ∙ (ap (λ (c : Config). c .areas) (x .config) ∙ sym (w .areas));
+      state = f .state ∙ (ap (λ (c : Config). savedOf (c .state)) (x .config) ∙ sym (w .state));
+      outcome = ap outcomeIn (f .answer) ∙ (ap outcomeNumbers (x .outcome) ∙ sym (ap outcomeIn (w .answer)));
+    }
+
+-- ---- one call by itself
+
+-- a call that is no run leaves the bytes of the state
+stays : (s piece bytes : List ℕ) (lent areas : Areas) (state answer : List ℕ) → AllBelow 256 bytes → restoredOf bytes .number ≡ none →
+    isRun leastBlocks s (configOf lent (restoredOf bytes .state)) ≡ false → Calls s piece lent bytes areas state answer → state ≡ bytes
+unfolding callOf leaves
+stays s piece bytes lent areas state answer l e n h =
+    let t = restoredOf bytes .state in
+    let c = h ∙ sym (called-saved s piece lent bytes e t (callOf leastBlocks s piece (configOf lent t)) refl refl) in
+    ap (λ (x : Answered). x .state) c ∙ rw n (saved-claim .own-form bytes l e .form)
+
 -- THE CLAIM, of calls through the exports
 pub export-claim : ExportClaim
-export-claim = record { follows = follows; agrees = agrees }
+export-claim =
+    record { told = told; stays = stays; follows = follows; agrees = agrees; ends = ends; restarts = restarts }

@@ -1,0 +1,1 @@
+// What calls through the exports come to, one after the other: definitions and laws only.

@@ -1,13 +1,13 @@
 -- Sequences of calls through the exports are those of the claim, call by call.
 -- Assumes nothing.
-use Prim.Native.Nat.{ℕ, _+_, _*_}
+use Prim.Native.Nat.{ℕ, _+_, _*_, _<_, _^_}
 use mathlib.Core.Path.{_≡_, refl, sym, ap, subst, _∙_}
 use mathlib.Core.Bool.{Bool, true, false}
 use mathlib.Core.List.{List, [], _∷_, _++_}
 use native.Mathlib.Omega.{arith}
 use borrow.Author.Tests.{ne-eqb}
 use lib.Dec.{eqb}
-use lib.ListN.{length, getD, replicate}
+use lib.ListN.{length, getD, drop, replicate}
 use Rattle.text.specs.Below.{AllBelow}
 use Rattle.text.specs.Choice.{pick, both}
 use Rattle.ranges.specs.Ranges.{leastBlocks}
@@ -31,11 +31,12 @@ use Rattle.sequence.specs.Model.{model}
 use Rattle.sequence.specs.Sequence.{CallsMade, noCalls, pieceOf, nextCall, allCalls, lastSays, lastTakes}
 use Rattle.sequence.proofs.SequenceLaws.{outcome-no-stop}
 use Rattle.sequence.proofs.ClaimLaws.{claim}
-use Rattle.restart.specs.Restart.{Standing}
+use Rattle.restart.specs.Writes.{AreasOutside}
+use Rattle.restart.specs.Restart.{writes, opening as stands-opening}
 use Rattle.restart.proofs.ClaimLaws.{restart-claim}
 use Rattle.muongrabi.specs.Answers.{outcomeNumber, outcomeNumbers, answerOf, Opened, Answered, answeredAs, answerTo, Calls}
 use Rattle.muongrabi.proofs.AnswerLaws.{told, called-saved}
-use Rattle.boundary.specs.Sequence.{Kept, keeping, outcomeIn, takenIn, IsStop, keepingOn, AllCalls, last, next, Accepts, Follows, EndsAs, EndAlike, ExportClaim}
+use Rattle.boundary.specs.Sequence.{Kept, keeping, outcomeIn, IsStop, keepingOn, ExportedCalls, last, next, AcceptedOpening, Follows, EndsAs, KeptAlike, Stored, ExportClaim}
 
 -- ---- whether a call stopped is told by its answer
 
@@ -122,7 +123,7 @@ record Ends (s : List ℕ) (m : CallsMade) (q : List ℕ) (qs : List (List ℕ))
   state : d .state ≡ savedOf (allCalls leastBlocks s (q ∷ qs) m .config .state)
   answer : said ≡ answerOf (lastSays leastBlocks s q qs m) (lastTakes leastBlocks s q qs m)
 
-all-end : (s : List ℕ) {c d : Kept} {q : List ℕ} {qs : List (List ℕ)} {said : List ℕ} (m : CallsMade) → Stands c m → AllCalls s c q qs d said → Ends s m q qs d said
+all-end : (s : List ℕ) {c d : Kept} {q : List ℕ} {qs : List (List ℕ)} {said : List ℕ} (m : CallsMade) → Stands c m → ExportedCalls s c q qs d said → Ends s m q qs d said
 unfolding allCalls lastSays lastTakes
 all-end s {q = q} m v (last h) = record { stands = call-stands s q v h; state = call-state s q v h; answer = call-answer s q v h }
 all-end s {q = q} m v (next h k) =
@@ -130,7 +131,7 @@ all-end s {q = q} m v (next h k) =
     record { stands = e .stands; state = e .state; answer = e .answer }
 
 follows : (s : List ℕ) (p : Config) (state : List ℕ) → restoredOf state ≡ restoredAs (p .state) →
-    (q : List ℕ) (qs : List (List ℕ)) {d : Kept} {said : List ℕ} → AllCalls s (keeping (p .areas) state) q qs d said → Follows s p q qs d said
+    (q : List ℕ) (qs : List (List ℕ)) {d : Kept} {said : List ℕ} → ExportedCalls s (keeping (p .areas) state) q qs d said → Follows s p q qs d said
 follows s p state r q qs k =
     let e = all-end s (noCalls p) (record { areas = refl; read = r; rest = refl; taken = refl }) k in
     record {
@@ -144,7 +145,7 @@ follows s p state r q qs k =
 
 -- ---- after an opening
 
-module _ (s : List ℕ) (a : Areas) (state : List ℕ) (o : Accepts s a state) where
+module _ (s : List ℕ) (a : Areas) (state : List ℕ) (o : AcceptedOpening s a state) where
   opened-read : restoredOf state ≡ restoredAs (openedConfig s a .state)
   opened-read = ap (λ (x : Opened). x .read) (o .opens)
 
@@ -156,8 +157,8 @@ goes-on : {s : List ℕ} {p : Config} {q : List ℕ} {qs : List (List ℕ)} {d :
     NoStop (lastSays leastBlocks s q qs (noCalls p))
 goes-on f g e = g (ap (λ (x : List ℕ). getD x 0 0) (f .answer) ∙ ap outcomeNumber e)
 
-agrees : (s : List ℕ) (a : Areas) (state : List ℕ) → Accepts s a state →
-    (q : List ℕ) (qs : List (List ℕ)) {d : Kept} {said : List ℕ} → AllCalls s (keeping a state) q qs d said → (IsStop said → ⊥) →
+agrees : (s : List ℕ) (a : Areas) (state : List ℕ) → AcceptedOpening s a state →
+    (q : List ℕ) (qs : List (List ℕ)) {d : Kept} {said : List ℕ} → ExportedCalls s (keeping a state) q qs d said → (IsStop said → ⊥) →
     EndsAs s a d said (model leastBlocks s a (joined (q ∷ qs)))
 agrees s a state o q qs k g =
     let f = follows s (openedConfig s a) state (opened-read s a state o) q qs k in
@@ -172,29 +173,69 @@ agrees s a state o q qs k g =
       taken = f .taken ∙ w .taken;
     }
 
-ends : (s : List ℕ) (a : Areas) (state : List ℕ) → Accepts s a state →
-    (q : List ℕ) (qs : List (List ℕ)) {d : Kept} {said : List ℕ} →
-    AllCalls s (keeping a state) q (qs ++ replicate (lineSteps * (length s + 1)) []) d said → IsStop said → ⊥
-ends s a state o q qs k e =
-    let rest = qs ++ replicate (lineSteps * (length s + 1)) [] in
-    let f = follows s (openedConfig s a) state (opened-read s a state o) q rest k in
-    claim .ends s a (opened-accepted s a state o) q qs
-    (number-stop (lastSays leastBlocks s q rest (noCalls (openedConfig s a))) (sym (ap (λ (x : List ℕ). getD x 0 0) (f .answer)) ∙ e))
+-- ---- what is stored
 
-restarts : (s : List ℕ) (a : Areas) (opened : List ℕ) → Accepts s a opened → {bytes xs : List ℕ} {p : Config} → Standing s a bytes xs p →
-    (state : List ℕ) → restoredOf state ≡ restoredAs (p .state) →
-    (q : List ℕ) (qs : List (List ℕ)) {d : Kept} {said : List ℕ} → joined (q ∷ qs) ≡ xs →
-    AllCalls s (keeping (p .areas) state) q qs d said → (IsStop said → ⊥) →
-    (r : List ℕ) (rs : List (List ℕ)) {e : Kept} {other : List ℕ} → joined (r ∷ rs) ≡ bytes →
-    AllCalls s (keeping a opened) r rs e other → (IsStop other → ⊥) → EndAlike d e said other
-restarts s a opened o {p = p} z state b q qs j k g r rs i l h =
-    let f = follows s p state b q qs k in
-    let w = follows s (openedConfig s a) opened (opened-read s a opened o) r rs l in
-    let x = restart-claim .restarts s a (opened-accepted s a opened o) z q qs j (goes-on f g) r rs i (goes-on w h) in
+-- a restored state with number 0 is that state
+restored-as : (r : Restored) → r .number ≡ none → r ≡ restoredAs (r .state)
+restored-as r e = rw e
+
+module _ (s : List ℕ) (a : Areas) {all left : List ℕ} {areas : Areas} {state : List ℕ} (z : Stored s a all left areas state) where
+  abbrev first : Config
+  first = configOf areas (restoredOf state .state)
+
+  stored-follows : (q : List ℕ) (qs : List (List ℕ)) {d : Kept} {said : List ℕ} → ExportedCalls s (keeping areas state) q qs d said → Follows s first q qs d said
+  stored-follows q qs k = follows s first state (restored-as (restoredOf state) (z .number)) q qs k
+
+  -- an answer that says stop
+  says-stop : {q : List ℕ} {qs : List (List ℕ)} {d : Kept} {said : List ℕ} → Follows s first q qs d said → IsStop said →
+      lastSays leastBlocks s q qs (noCalls first) ≡ Stop
+  says-stop {q} {qs} f e =
+      number-stop (lastSays leastBlocks s q qs (noCalls first)) (sym (ap (λ (x : List ℕ). getD x 0 0) (f .answer)) ∙ e)
+
+  stop : (q : List ℕ) (qs : List (List ℕ)) (later : List ℕ) → joined (q ∷ qs) ++ later ≡ left →
+      {d : Kept} {said : List ℕ} → ExportedCalls s (keeping areas state) q qs d said → IsStop said →
+      Stored s a all (d .rest ++ later) (d .areas) (d .state)
+  stop q qs later j {d} k e =
+      let f = stored-follows q qs k in
+      let w = restart-claim .stops s a (z .stands) q qs later j (says-stop f e) in
+      record {
+        number = ap (λ (x : Restored). x .number) (f .read);
+        stands = rw (f .rest, f .areas, ap (λ (x : Restored). x .state) (f .read)) w;
+      }
+
+  cut : (b : Areas) → AreasOutside (writes s left first) areas b → Stored s a all left b state
+  cut b o = record { number = z .number; stands = restart-claim .cuts s a (z .stands) b o }
+
+  module _ (opened : List ℕ) (o : AcceptedOpening s a opened) where
+    onward : length all < 2 ^ 64 → left ≡ drop (restoredOf state .state .total) all
+    onward l = restart-claim .onward s a (opened-accepted s a opened o) (z .stands) l
+
+    restarts : (q : List ℕ) (qs : List (List ℕ)) {d : Kept} {said : List ℕ} → joined (q ∷ qs) ≡ left →
+        ExportedCalls s (keeping areas state) q qs d said → (IsStop said → ⊥) →
+        (r : List ℕ) (rs : List (List ℕ)) {e : Kept} {other : List ℕ} → joined (r ∷ rs) ≡ all →
+        ExportedCalls s (keeping a opened) r rs e other → (IsStop other → ⊥) → KeptAlike d e said other
+    restarts q qs j k g r rs i l h =
+        let f = stored-follows q qs k in
+        let w = follows s (openedConfig s a) opened (opened-read s a opened o) r rs l in
+        let x = restart-claim .restarts s a (opened-accepted s a opened o) (z .stands) q qs j (goes-on f g) r rs i (goes-on w h) in
+        record {
+          areas = f .areas ∙ (ap (λ (c : Config). c .areas) (x .config) ∙ sym (w .areas));
+          state = f .state ∙ (ap (λ (c : Config). savedOf (c .state)) (x .config) ∙ sym (w .state));
+          outcome = ap outcomeIn (f .answer) ∙ (ap outcomeNumbers (x .outcome) ∙ sym (ap outcomeIn (w .answer)));
+        }
+
+    ends : (q : List ℕ) (qs : List (List ℕ)) {d : Kept} {said : List ℕ} →
+        ExportedCalls s (keeping areas state) q (qs ++ replicate (lineSteps * (length s + 1)) []) d said → IsStop said → ⊥
+    ends q qs k e =
+        let f = stored-follows q (qs ++ replicate (lineSteps * (length s + 1)) []) k in
+        restart-claim .ends s a (opened-accepted s a opened o) (z .stands) q qs (says-stop f e)
+
+opening : (s : List ℕ) (a : Areas) (state : List ℕ) → AcceptedOpening s a state → (all : List ℕ) → Stored s a all all a state
+opening s a state o all =
+    let r = opened-read s a state o in
     record {
-      areas = f .areas ∙ (ap (λ (c : Config). c .areas) (x .config) ∙ sym (w .areas));
-      state = f .state ∙ (ap (λ (c : Config). savedOf (c .state)) (x .config) ∙ sym (w .state));
-      outcome = ap outcomeIn (f .answer) ∙ (ap outcomeNumbers (x .outcome) ∙ sym (ap outcomeIn (w .answer)));
+      number = ap (λ (x : Restored). x .number) r;
+      stands = rw (ap (λ (x : Restored). x .state) r) stands-opening;
     }
 
 -- ---- one call by itself
@@ -211,4 +252,15 @@ stays s piece bytes lent areas state answer l e n h =
 -- THE CLAIM, of calls through the exports
 pub export-claim : ExportClaim
 export-claim =
-    record { told = told; stays = stays; follows = follows; agrees = agrees; ends = ends; restarts = restarts }
+    record {
+      told = told;
+      stays = stays;
+      follows = follows;
+      agrees = agrees;
+      opening = opening;
+      stop = λ s a z. stop s a z;
+      cut = λ s a z. cut s a z;
+      onward = λ s a opened o z. onward s a z opened o;
+      restarts = λ s a opened o z. restarts s a z opened o;
+      ends = λ s a opened o z. ends s a z opened o;
+    }

@@ -2,7 +2,7 @@
 -- bytes, as the last call left them. Of an export nothing but its contract is used: these calls are those of `sequence/specs/Sequence.antt`, and what is
 -- claimed of those holds of them.
 -- Assumes nothing: these are definitions.
-use Prim.Native.Nat.{ℕ, _+_, _*_}
+use Prim.Native.Nat.{ℕ, _+_, _*_, _<_, _^_}
 use mathlib.Core.Path.{_≡_}
 use mathlib.Core.Bool.{false}
 use mathlib.Core.List.{List, [], _∷_, _++_}
@@ -23,7 +23,8 @@ use Rattle.saved.specs.Saved.{savedOf}
 use Rattle.sequence.specs.Claim.{Holds}
 use Rattle.sequence.specs.Model.{Model, model, modelOutcome}
 use Rattle.sequence.specs.Sequence.{noCalls, allCalls, lastSays, lastTakes}
-use Rattle.restart.specs.Restart.{Standing}
+use Rattle.restart.specs.Writes.{AreasOutside}
+use Rattle.restart.specs.Restart.{writes, Standing}
 use Rattle.muongrabi.specs.Answers.{outcomeNumber, outcomeNumbers, answerOf, Told, Opens, Calls}
 
 -- what a caller keeps: the areas and the state's bytes; of the last piece the bytes that were not taken, if that call stopped; the sum of bytes taken
@@ -37,14 +38,15 @@ pub record Kept : Type 0 where
 abbrev pub keeping : Areas → List ℕ → Kept
 keeping areas state = record { areas = areas; state = state; rest = []; taken = 0 }
 
--- of an answer: the outcome with its refusal, and the bytes taken
+-- of an answer the outcome with its refusal
 abbrev pub outcomeIn : List ℕ → List ℕ
 outcomeIn answer = take 4 answer
 
+-- .. and the bytes taken
 abbrev pub takenIn : List ℕ → ℕ
 takenIn answer = getD answer 4 0
 
--- it is that of a stop
+-- an answer that says stop
 abbrev pub IsStop : List ℕ → Type 0
 IsStop answer = getD answer 0 0 ≡ outcomeNumber Stop
 
@@ -59,15 +61,15 @@ keepingOn c piece areas state answer =
     }
 
 -- one call or more, told by the fresh bytes of each, q first: what is kept after the last, and its answer
-pub data AllCalls (s : List ℕ) : Kept → List ℕ → List (List ℕ) → Kept → List ℕ → Type 0 where
+pub data ExportedCalls (s : List ℕ) : Kept → List ℕ → List (List ℕ) → Kept → List ℕ → Type 0 where
   last : {c : Kept} {q : List ℕ} {areas : Areas} {state answer : List ℕ} → Calls s (c .rest ++ q) (c .areas) (c .state) areas state answer →
-      AllCalls s c q [] (keepingOn c (c .rest ++ q) areas state answer) answer
+      ExportedCalls s c q [] (keepingOn c (c .rest ++ q) areas state answer) answer
   next : {c d : Kept} {q r : List ℕ} {qs : List (List ℕ)} {areas : Areas} {state answer said : List ℕ} →
       Calls s (c .rest ++ q) (c .areas) (c .state) areas state answer →
-      AllCalls s (keepingOn c (c .rest ++ q) areas state answer) r qs d said → AllCalls s c q (r ∷ qs) d said
+      ExportedCalls s (keepingOn c (c .rest ++ q) areas state answer) r qs d said → ExportedCalls s c q (r ∷ qs) d said
 
 -- an opening over these areas that is accepted: its answer has number 0
-pub record Accepts (s : List ℕ) (a : Areas) (state : List ℕ) : Type 0 where
+pub record AcceptedOpening (s : List ℕ) (a : Areas) (state : List ℕ) : Type 0 where
   pub answer : List ℕ
   pub opens : Opens s (lengthsAt s a) state answer
   pub accepted : getD answer 0 0 ≡ none
@@ -90,10 +92,15 @@ pub record EndsAs (s : List ℕ) (a : Areas) (d : Kept) (said : List ℕ) (m : M
   pub taken : d .taken ≡ m .taken
 
 -- two sequences end alike: in the areas, in every byte of the state, and in the outcome with its refusal
-pub record EndAlike (d e : Kept) (said other : List ℕ) : Type 0 where
+pub record KeptAlike (d e : Kept) (said other : List ℕ) : Type 0 where
   pub areas : d .areas ≡ e .areas
   pub state : d .state ≡ e .state
   pub outcome : outcomeIn said ≡ outcomeIn other
+
+-- where storage may stand, of all the new data that much being left: these areas, and these bytes as the stored state (`restart/specs/Restart.antt`)
+pub record Stored (s : List ℕ) (a : Areas) (all left : List ℕ) (areas : Areas) (state : List ℕ) : Type 0 where
+  pub number : restoredOf state .number ≡ none
+  pub stands : Standing s a all left (configOf areas (restoredOf state .state))
 
 -- THE CLAIM, of calls through the exports
 pub record ExportClaim : Type 0 where
@@ -104,19 +111,36 @@ pub record ExportClaim : Type 0 where
       isRun leastBlocks s (configOf lent (restoredOf bytes .state)) ≡ false → Calls s piece lent bytes areas state answer → state ≡ bytes
   -- from bytes that are read back as a state, calls are those of the claim
   pub follows : (s : List ℕ) (p : Config) (state : List ℕ) → restoredOf state ≡ restoredAs (p .state) →
-      (q : List ℕ) (qs : List (List ℕ)) {d : Kept} {said : List ℕ} → AllCalls s (keeping (p .areas) state) q qs d said → Follows s p q qs d said
+      (q : List ℕ) (qs : List (List ℕ)) {d : Kept} {said : List ℕ} → ExportedCalls s (keeping (p .areas) state) q qs d said → Follows s p q qs d said
   -- after an accepted opening, whenever the last call did not stop: what the model gives for the pieces joined
-  pub agrees : (s : List ℕ) (a : Areas) (state : List ℕ) → Accepts s a state →
-      (q : List ℕ) (qs : List (List ℕ)) {d : Kept} {said : List ℕ} → AllCalls s (keeping a state) q qs d said → (IsStop said → ⊥) →
+  pub agrees : (s : List ℕ) (a : Areas) (state : List ℕ) → AcceptedOpening s a state →
+      (q : List ℕ) (qs : List (List ℕ)) {d : Kept} {said : List ℕ} → ExportedCalls s (keeping a state) q qs d said → (IsStop said → ⊥) →
       EndsAs s a d said (model leastBlocks s a (joined (q ∷ qs)))
-  -- calling on comes to an end
-  pub ends : (s : List ℕ) (a : Areas) (state : List ℕ) → Accepts s a state →
+  -- ---- document 02, R-9: what is stored, after an opening
+
+  -- the opening's own state may be stored
+  pub opening : (s : List ℕ) (a : Areas) (state : List ℕ) → AcceptedOpening s a state → (all : List ℕ) → Stored s a all all a state
+  -- .. and what calls leave that stop, of all data those bytes being left that were not taken
+  pub stop : (s : List ℕ) (a : Areas) {all left : List ℕ} {areas : Areas} {state : List ℕ} → Stored s a all left areas state →
+      (q : List ℕ) (qs : List (List ℕ)) (later : List ℕ) → joined (q ∷ qs) ++ later ≡ left →
+      {d : Kept} {said : List ℕ} → ExportedCalls s (keeping areas state) q qs d said → IsStop said →
+      Stored s a all (d .rest ++ later) (d .areas) (d .state)
+  -- a cut leaves the stored bytes, and of the areas all that the run does not write from there to the next stop or its end
+  pub cut : (s : List ℕ) (a : Areas) {all left : List ℕ} {areas : Areas} {state : List ℕ} → Stored s a all left areas state →
+      (b : Areas) → AreasOutside (writes s left (configOf areas (restoredOf state .state))) areas b → Stored s a all left b state
+  -- what is left is the new data from the stored state's total onward
+  pub onward : (s : List ℕ) (a : Areas) (opened : List ℕ) → AcceptedOpening s a opened →
+      {all left : List ℕ} {areas : Areas} {state : List ℕ} → Stored s a all left areas state →
+      length all < 2 ^ 64 → left ≡ drop (restoredOf state .state .total) all
+  -- with it the run ends as it does with all the data from the opening
+  pub restarts : (s : List ℕ) (a : Areas) (opened : List ℕ) → AcceptedOpening s a opened →
+      {all left : List ℕ} {areas : Areas} {state : List ℕ} → Stored s a all left areas state →
+      (q : List ℕ) (qs : List (List ℕ)) {d : Kept} {said : List ℕ} → joined (q ∷ qs) ≡ left →
+      ExportedCalls s (keeping areas state) q qs d said → (IsStop said → ⊥) →
+      (r : List ℕ) (rs : List (List ℕ)) {e : Kept} {other : List ℕ} → joined (r ∷ rs) ≡ all →
+      ExportedCalls s (keeping a opened) r rs e other → (IsStop other → ⊥) → KeptAlike d e said other
+  -- calling on comes to that end
+  pub ends : (s : List ℕ) (a : Areas) (opened : List ℕ) → AcceptedOpening s a opened →
+      {all left : List ℕ} {areas : Areas} {state : List ℕ} → Stored s a all left areas state →
       (q : List ℕ) (qs : List (List ℕ)) {d : Kept} {said : List ℕ} →
-      AllCalls s (keeping a state) q (qs ++ replicate (lineSteps * (length s + 1)) []) d said → IsStop said → ⊥
-  -- wherever storage and the stored bytes may stand (`restart/specs/Restart.antt`), the new data that is left ends as all of it does from the opening
-  pub restarts : (s : List ℕ) (a : Areas) (opened : List ℕ) → Accepts s a opened → {bytes xs : List ℕ} {p : Config} → Standing s a bytes xs p →
-      (state : List ℕ) → restoredOf state ≡ restoredAs (p .state) →
-      (q : List ℕ) (qs : List (List ℕ)) {d : Kept} {said : List ℕ} → joined (q ∷ qs) ≡ xs →
-      AllCalls s (keeping (p .areas) state) q qs d said → (IsStop said → ⊥) →
-      (r : List ℕ) (rs : List (List ℕ)) {e : Kept} {other : List ℕ} → joined (r ∷ rs) ≡ bytes →
-      AllCalls s (keeping a opened) r rs e other → (IsStop other → ⊥) → EndAlike d e said other
+      ExportedCalls s (keeping areas state) q (qs ++ replicate (lineSteps * (length s + 1)) []) d said → IsStop said → ⊥

@@ -2,6 +2,6 @@
 -- Assumes nothing: this is a definition.
 use Prim.Native.Nat.{ℕ}
 
--- another one whenever what an exported function takes or gives changes, the length of an array too
+-- another one whenever the parameters of an exported function change, or what an array among them holds
 abbrev pub abi : ℕ
 abi = 6

@@ -19,7 +19,7 @@ use Rattle.saved.specs.Saved.{progressNumbers, refusalNumbers, lengthNumbers, F
 abbrev pub numbersOf : State → List ℕ
 numbersOf s = progressNumbers s ++ (refusalNumbers (s .refusal) ++ lengthNumbers (s .lengths))
 
--- what has these numbers
+-- the progress that has these numbers
 abbrev pub progressWith : List ℕ → Progress
 progressWith n =
     record {

@@ -124,8 +124,8 @@ pub extern "C" fn muongrabi_open(
     ];
 }
 
-// One call with one piece of new data, from the state whose saved form is lent, and is that of the state after it then. Where it is no state's
-// saved form, 20, and nothing is changed.
+// One call with one piece of new data, from the state whose saved form is lent; after it these bytes are the saved form of the state that it
+// left. Where they are no state's saved form: 20, and nothing is changed.
 #[no_mangle]
 pub extern "C" fn muongrabi_call(
     list: &[u8],

@@ -1,14 +1,14 @@
 -- What a caller has after an export, put together from its parts: the bytes of the state are a saved form, and are read back as that state.
 -- Assumes nothing.
 use Prim.Native.Nat.{ℕ}
-use mathlib.Core.Path.{_≡_, refl, ap}
+use mathlib.Core.Path.{_≡_, refl, sym, ap, _∙_}
 use mathlib.Core.List.{List}
-use native.Mathlib.Omega.{arith}
 use borrow.Author.Tests.{eq-eqb, ne-eqb}
+use lib.Dec.{eqb}
 use lib.ListN.{getD}
+use Rattle.text.specs.Choice.{pick}
 use Rattle.ranges.specs.Ranges.{leastBlocks}
 use Rattle.state.specs.Refusals.{none}
-use Rattle.state.specs.declared.Refusal.{Refusal}
 use Rattle.state.specs.declared.State.{State}
 use Rattle.updater.specs.Areas.{Areas}
 use Rattle.updater.specs.Calls.{Result, callOf}
@@ -18,36 +18,24 @@ use Rattle.updater.specs.declared.Outcome.the-variants.{Done, More, Stop, Refus
 use Rattle.saved.specs.Restored.{restoredAs, restoredOf}
 use Rattle.saved.specs.Saved.{refusalNumbers, FormOf}
 use Rattle.saved.proofs.ClaimLaws.{claim}
-use Rattle.muongrabi.specs.Answers.{answerOf, Told, openedAs, openingOf, answeredAs, answerTo, notSaved, calledOver}
+use Rattle.muongrabi.specs.Answers.{outcomeNumber, answerOf, Told, openedAs, openingOf, answeredAs, answerTo, notSaved, calledOver}
 
--- an answer tells what was said
+-- the outcome that an answer tells
+back : List ℕ → Outcome
+back x =
+    pick (eqb (getD x 0 0) (outcomeNumber Done)) Done
+    (pick (eqb (getD x 0 0) (outcomeNumber More)) More
+    (pick (eqb (getD x 0 0) (outcomeNumber Stop)) Stop (Refused (record { number = getD x 1 0; line = getD x 2 0; byte = getD x 3 0 }))))
+
+back-of : (o : Outcome) (n : ℕ) → back (answerOf o n) ≡ o
+unfolding back
+back-of Done n = refl
+back-of More n = refl
+back-of Stop n = refl
+back-of (Refused refusal) n = refl
+
 pub told : Told
-told o p n m e = (by o p e, ap (λ (x : List ℕ). getD x 4 0) e)
-  where
-    first : {a b : List ℕ} → a ≡ b → getD a 0 0 ≡ getD b 0 0
-    first f = ap (λ (x : List ℕ). getD x 0 0) f
-
-    by : (o p : Outcome) → answerOf o n ≡ answerOf p m → o ≡ p
-    by Done Done f = refl
-    by More More f = refl
-    by Stop Stop f = refl
-    by (Refused x) (Refused y) f =
-        same x y (ap (λ (l : List ℕ). getD l 1 0) f) (ap (λ (l : List ℕ). getD l 2 0) f) (ap (λ (l : List ℕ). getD l 3 0) f)
-      where
-        same : (x y : Refusal) → x .number ≡ y .number → x .line ≡ y .line → x .byte ≡ y .byte → Refused x ≡ Refused y
-        same x y f g h = ap Refused (rw (f, g, h))
-    by Done More f = let z = first f in absurd (omega arith)
-    by Done Stop f = let z = first f in absurd (omega arith)
-    by Done (Refused y) f = let z = first f in absurd (omega arith)
-    by More Done f = let z = first f in absurd (omega arith)
-    by More Stop f = let z = first f in absurd (omega arith)
-    by More (Refused y) f = let z = first f in absurd (omega arith)
-    by Stop Done f = let z = first f in absurd (omega arith)
-    by Stop More f = let z = first f in absurd (omega arith)
-    by Stop (Refused y) f = let z = first f in absurd (omega arith)
-    by (Refused x) Done f = let z = first f in absurd (omega arith)
-    by (Refused x) More f = let z = first f in absurd (omega arith)
-    by (Refused x) Stop f = let z = first f in absurd (omega arith)
+told o p n m e = (sym (back-of o n) ∙ (ap back e ∙ back-of p m), ap (λ (x : List ℕ). getD x 4 0) e)
 
 pub form-read : (b : List ℕ) (s : State) → FormOf b s → restoredOf b ≡ restoredAs s
 form-read b s f = rw (f .form) at (claim .read-back s (f .typed))

@@ -7,11 +7,8 @@ use Rattle.text.specs.Number.{number_at}
 use Rattle.text.specs.declared.number.Number.{Number}
 use Rattle.text.specs.declared.number.Number.TheVariants as number
 use Rattle.text.specs.Hash.{hash_at, no_hash}
-use Rattle.text.specs.NumberHash.{number_hash_at}
 use Rattle.text.specs.declared.expected.Expected.TheVariants as expected
 use Rattle.text.specs.declared.hash.Hash.{Hash}
-use Rattle.command.specs.declared.version.Names.{Names}
-use Rattle.command.specs.declared.version.Names.TheVariants.{Hashes, Numbers, Either}
 use Rattle.ranges.specs.Ranges.{ranges_at, on_ranges}
 use Rattle.ranges.specs.declared.Ranges.{Ranges}
 use Rattle.ranges.specs.declared.Ranges.TheVariants as ranges
@@ -23,17 +20,6 @@ number_field l at = on_expected (expected_at l at space) (number_at l) number.Ba
 -- a hash; its bytes are zero where there is none
 unfoldable pub hash_field : List ℕ → ℕ → Hash
 hash_field l at = on_expected (expected_at l at space) (hash_at l) (λ p. record { read = expected.Bad p; bytes = no_hash })
-
--- the name of a stash, at a position: a hash, in version 2 a number (document 02, R-10). Where a line is read again it is a hash if one stands
--- there, else a number: no number is followed by what would make it a hash
-unfoldable pub name_at : Names → List ℕ → ℕ → Hash
-name_at Hashes l at = hash_at l at
-name_at Numbers l at = number_hash_at l at
-name_at Either l at = on_expected (hash_at l at).read (λ i. hash_at l at) (λ p. number_hash_at l at)
-
--- .. as a field
-unfoldable pub name_field : Names → List ℕ → ℕ → Hash
-name_field names l at = on_expected (expected_at l at space) (name_at names l) (λ p. record { read = expected.Bad p; bytes = no_hash })
 
 -- a range set
 unfoldable pub set_field : ℕ → List ℕ → ℕ → Ranges

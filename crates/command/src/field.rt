@@ -1,15 +1,12 @@
 // Fields of a line, each with the space before it.
 ghost use Rattle.std.specs.Prelude.{◌≡◌};
 ghost use Rattle.ranges.specs.Ranges.{least_blocks};
-ghost use Rattle.command.specs.declared.version.Names.TheVariants.{Either};
-ghost use Rattle.command.specs.Fields.{number_field, hash_field, name_at, name_field, set_field, last_set};
+ghost use Rattle.command.specs.Fields.{number_field, hash_field, set_field, last_set};
 
-use crate::version::Names;
 use ranges::{LEAST_BLOCKS, Ranges, read_ranges};
 use text::expected::{Expected, read_expected};
 use text::hash::{HASH_BYTES, Hash, read_hash};
 use text::number::{Number, read_number};
-use text::number_hash::read_number_hash;
 
 pub(crate) fn read_set_field(l: &[u8], at: usize) -> Ranges
     ensures { result ≡ set_field least_blocks l.now at }
@@ -30,41 +27,6 @@ pub(crate) fn read_hash_field(l: &[u8], at: usize) -> Hash
             bytes: [0u8; HASH_BYTES],
         },
         Expected::Past(i) => read_hash(l, i),
-    }
-}
-
-// A hash if one stands there, else a number.
-fn read_either(l: &[u8], at: usize) -> Hash
-    ensures { result ≡ name_at Either l.now at }
-{
-    let h = read_hash(l, at);
-    let read = h.read;
-    match read {
-        Expected::Past(_) => h,
-        Expected::Bad(_) => read_number_hash(l, at),
-    }
-}
-
-// The name of a stash.
-pub(crate) fn read_name(l: &[u8], at: usize, names: Names) -> Hash
-    ensures { result ≡ name_at names l.now at }
-{
-    match names {
-        Names::Hashes => read_hash(l, at),
-        Names::Numbers => read_number_hash(l, at),
-        Names::Either => read_either(l, at),
-    }
-}
-
-pub(crate) fn read_name_field(l: &[u8], at: usize, names: Names) -> Hash
-    ensures { result ≡ name_field names l.now at }
-{
-    match read_expected(l, at, b' ') {
-        Expected::Bad(p) => Hash {
-            read: Expected::Bad(p),
-            bytes: [0u8; HASH_BYTES],
-        },
-        Expected::Past(i) => read_name(l, i, names),
     }
 }
 

@@ -1,17 +1,15 @@
 // A line of a transfer list, read as a command.
-ghost use Rattle.std.specs.Prelude.{◌≡◌, length};
+ghost use Rattle.std.specs.Prelude.{◌≡◌};
 ghost use Rattle.text.specs.Expected.{on_expected};
 ghost use Rattle.ranges.specs.Ranges.{least_blocks, on_ranges};
 ghost use Rattle.command.specs.declared.Command.TheVariants.{Bad};
-ghost use Rattle.command.specs.Commands.{stash_from, free_from, after_name, with_set, plain, after_word, named_line, stashed_line, range_line, command_of};
-ghost use Rattle.command.specs.Words.{sourced_word};
+ghost use Rattle.command.specs.Commands.{stash_from, free_from, after_hash, with_set, plain, hashed_line, range_line, command_of};
 
 use crate::bsdiff::bsdiff_line;
-use crate::field::{read_last_set, read_name_field};
+use crate::field::{read_hash_field, read_last_set};
 use crate::source::Source;
-use crate::sourced::{Purpose, sourced_line};
-use crate::version::{Names, Version};
-use crate::word::{NameWord, RangeWord, Word, word_fault, word_of};
+use crate::sourced::{Purpose, read_target};
+use crate::word::{HashWord, RangeWord, Word, word_fault, word_of};
 use ranges::{RangeSet, Ranges};
 use text::expected::{Expected, read_expected};
 use text::hash::HASH_BYTES;
@@ -25,7 +23,6 @@ pub mod patching;
 pub mod source;
 pub mod sourced;
 pub mod targets;
-pub mod version;
 pub mod word;
 
 // `Unsupported` is `imgdiff`; `Bad` has the position of the line's fault.
@@ -36,12 +33,12 @@ pub enum Command {
     New(RangeSet),
     Move {
         target: RangeSet,
-        length: usize,
+        length: u32,
         source: Source,
     },
     Bsdiff {
         target: RangeSet,
-        length: usize,
+        length: u32,
         source: Source,
     },
     Stash(RangeSet),
@@ -50,18 +47,11 @@ pub enum Command {
     Bad(usize),
 }
 
-// The hash of a line: the name of its stash, a number's hash in version 2. Where it is checked, it is what the source must hash to; that is so
-// in version 3 alone. Zero where the line has none.
-#[derive(Drop)]
-pub struct LineHash {
-    pub bytes: [u8; HASH_BYTES],
-    pub checked: bool,
-}
-
+// A command beside its hash, which is zero where the command has none: the digest that the source must have, and the stash's name.
 #[derive(Drop)]
 pub struct Line {
     pub command: Command,
-    pub hash: LineHash,
+    pub hash: [u8; HASH_BYTES],
 }
 
 fn read_stash(l: &[u8], at: usize) -> Command
@@ -82,15 +72,16 @@ fn read_free(l: &[u8], at: usize) -> Command
     }
 }
 
-// What follows the name, by the word.
-fn after_name(l: &[u8], word: NameWord, read: Expected) -> Command
-    ensures { result ≡ on_expected read (after_name least_blocks l.now word) Bad }
+// What follows the hash, by the word.
+fn after_hash(l: &[u8], word: HashWord, read: Expected) -> Command
+    ensures { result ≡ on_expected read (after_hash least_blocks l.now word) Bad }
 {
     match read {
         Expected::Bad(p) => Command::Bad(p),
         Expected::Past(at) => match word {
-            NameWord::Stash => read_stash(l, at),
-            NameWord::Free => read_free(l, at),
+            HashWord::Move => read_target(l, Purpose::Move, at),
+            HashWord::Stash => read_stash(l, at),
+            HashWord::Free => read_free(l, at),
         },
     }
 }
@@ -113,44 +104,20 @@ pub(crate) fn without_hash(command: Command) -> Line
 {
     Line {
         command,
-        hash: LineHash {
-            bytes: [0u8; HASH_BYTES],
-            checked: false,
-        },
+        hash: [0u8; HASH_BYTES],
     }
 }
 
-// `stash` and `free`: a word, a name, and what follows it.
-fn named_line(l: &[u8], word: NameWord, names: Names, checked: bool) -> Line
-    ensures { result ≡ named_line least_blocks names checked l.now word }
+// `move`, `stash` and `free`: a word, a hash, and what follows it.
+fn hashed_line(l: &[u8], word: HashWord) -> Line
+    ensures { result ≡ hashed_line least_blocks l.now word }
 {
-    let h = read_name_field(l, word.len(), names);
-    let bytes = h.bytes;
+    let h = read_hash_field(l, word.len());
+    let hash = h.bytes;
     let read = h.read;
     Line {
-        command: after_name(l, word, read),
-        hash: LineHash { bytes, checked },
-    }
-}
-
-// The same by the version, of which 1 has neither word.
-fn stashed_line(l: &[u8], version: Version, word: NameWord) -> Line
-    ensures { result ≡ stashed_line least_blocks version l.now word }
-{
-    match version {
-        Version::One => without_hash(Command::Bad(word_fault(l, Version::One))),
-        Version::Two => named_line(l, word, Names::Numbers, false),
-        Version::Three => named_line(l, word, Names::Hashes, true),
-    }
-}
-
-// `move` and `bsdiff`.
-fn source_line(l: &[u8], version: Version, purpose: Purpose) -> Line
-    ensures { result ≡ after_word least_blocks version l.now purpose (length (sourced_word purpose)) }
-{
-    match purpose {
-        Purpose::Move => sourced_line(l, version, Purpose::Move, b"move".len()),
-        Purpose::Bsdiff => bsdiff_line(l, version, b"bsdiff".len()),
+        command: after_hash(l, word, read),
+        hash,
     }
 }
 
@@ -161,15 +128,15 @@ fn range_line(l: &[u8], word: RangeWord) -> Line
     without_hash(with_set(word, read_last_set(l, word.len())))
 }
 
-// The command of a line that is handed over as its part of the text, by the version of its list.
-pub fn read_command(l: &[u8], version: Version) -> Line
-    ensures { result ≡ command_of least_blocks version l.now }
+// The command of a line that is handed over as its part of the text.
+pub fn read_command(l: &[u8]) -> Line
+    ensures { result ≡ command_of least_blocks l.now }
 {
     match word_of(l) {
         Word::Ranges(word) => range_line(l, word),
-        Word::Sourced(purpose) => source_line(l, version, purpose),
-        Word::Named(word) => stashed_line(l, version, word),
+        Word::Hash(word) => hashed_line(l, word),
+        Word::Bsdiff => bsdiff_line(l),
         Word::Imgdiff => without_hash(Command::Unsupported),
-        Word::Unknown => without_hash(Command::Bad(word_fault(l, version))),
+        Word::Unknown => without_hash(Command::Bad(word_fault(l))),
     }
 }

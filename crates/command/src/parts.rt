@@ -1,13 +1,11 @@
-// The stashes that a source names, each as `H:L`; in version 2 a number stands for H.
+// The stashes that a source names, each as `H:L`.
 ghost use Rattle.std.specs.Prelude.{◌≡◌};
 ghost use Rattle.ranges.specs.Ranges.{least_blocks};
 ghost use Rattle.command.specs.Parts.{part_end, places_from, part_at, parts_at, parts_field};
 
-use crate::field::read_name;
-use crate::version::Names;
 use ranges::{LEAST_BLOCKS, RangeSet, Ranges, read_ranges};
 use text::expected::{Expected, read_expected};
-use text::hash::HASH_BYTES;
+use text::hash::{HASH_BYTES, read_hash};
 
 // The places of one stash and the position past what follows them: a space and another `H:L`, or the line's end.
 #[derive(Drop)]
@@ -59,10 +57,10 @@ fn read_places(l: &[u8], at: usize, least: u32) -> PartRead
 }
 
 // One `H:L`; each range of its places has at least so many blocks.
-pub fn read_part(l: &[u8], at: usize, names: Names, least: u32) -> Part
-    ensures { result ≡ part_at least names l.now at }
+pub fn read_part(l: &[u8], at: usize, least: u32) -> Part
+    ensures { result ≡ part_at least l.now at }
 {
-    let h = read_name(l, at, names);
+    let h = read_hash(l, at);
     let hash = h.bytes;
     let read = h.read;
     match read {
@@ -78,12 +76,12 @@ pub fn read_part(l: &[u8], at: usize, names: Names, least: u32) -> Part
 }
 
 // One or more to the line's end: checked here, and read again where they are used.
-pub(crate) fn check_parts(l: &[u8], first: usize, names: Names) -> PartsRead
-    ensures { result ≡ parts_at least_blocks names l.now first }
+pub(crate) fn check_parts(l: &[u8], first: usize) -> PartsRead
+    ensures { result ≡ parts_at least_blocks l.now first }
 {
     let mut at = first;
     loop {
-        let part = read_part(l, at, names, LEAST_BLOCKS);
+        let part = read_part(l, at, LEAST_BLOCKS);
         let read = part.read;
         match read {
             PartRead::Bad(p) => {
@@ -99,11 +97,11 @@ pub(crate) fn check_parts(l: &[u8], first: usize, names: Names) -> PartsRead
     }
 }
 
-pub(crate) fn read_parts_field(l: &[u8], at: usize, names: Names) -> PartsRead
-    ensures { result ≡ parts_field least_blocks names l.now at }
+pub(crate) fn read_parts_field(l: &[u8], at: usize) -> PartsRead
+    ensures { result ≡ parts_field least_blocks l.now at }
 {
     match read_expected(l, at, b' ') {
         Expected::Bad(p) => PartsRead::Bad(p),
-        Expected::Past(first) => check_parts(l, first, names),
+        Expected::Past(first) => check_parts(l, first),
     }
 }

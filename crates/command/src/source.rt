@@ -5,7 +5,6 @@ ghost use Rattle.command.specs.Commands.{after_dash, with_places, after_blocks, 
 
 use crate::field::read_set_field;
 use crate::parts::{PartsRead, read_parts_field};
-use crate::version::Names;
 use ranges::{LEAST_BLOCKS, RangeSet, Ranges, read_ranges};
 use text::expected::{Expected, read_expected};
 
@@ -28,22 +27,22 @@ pub enum SourceRead {
 }
 
 // A source of stashes alone, after its dash.
-fn read_stashes(l: &[u8], at: usize, names: Names) -> SourceRead
-    ensures { result ≡ after_dash least_blocks names l.now at }
+fn read_stashes(l: &[u8], at: usize) -> SourceRead
+    ensures { result ≡ after_dash least_blocks l.now at }
 {
-    match read_parts_field(l, at, names) {
+    match read_parts_field(l, at) {
         PartsRead::Bad(p) => SourceRead::Bad(p),
         PartsRead::Good(first) => SourceRead::Good(Source::Stashes(first)),
     }
 }
 
 // L and one P or more, after S.
-fn read_both(l: &[u8], blocks: RangeSet, at: usize, names: Names) -> SourceRead
-    ensures { result ≡ with_places least_blocks names l.now blocks at }
+fn read_both(l: &[u8], blocks: RangeSet, at: usize) -> SourceRead
+    ensures { result ≡ with_places least_blocks l.now blocks at }
 {
     match read_set_field(l, at) {
         Ranges::Bad(p) => SourceRead::Bad(p),
-        Ranges::Good(places, i) => match read_parts_field(l, i, names) {
+        Ranges::Good(places, i) => match read_parts_field(l, i) {
             PartsRead::Bad(p) => SourceRead::Bad(p),
             PartsRead::Good(first) => SourceRead::Good(Source::Both {
                 blocks,
@@ -55,33 +54,33 @@ fn read_both(l: &[u8], blocks: RangeSet, at: usize, names: Names) -> SourceRead
 }
 
 // What stands after S: the line's end, or L and one P or more.
-fn read_after_blocks(l: &[u8], blocks: RangeSet, at: usize, names: Names) -> SourceRead
-    ensures { result ≡ after_blocks least_blocks names l.now blocks at }
+fn read_after_blocks(l: &[u8], blocks: RangeSet, at: usize) -> SourceRead
+    ensures { result ≡ after_blocks least_blocks l.now blocks at }
 {
     match read_expected(l, at, b'\n') {
         Expected::Past(_) => SourceRead::Good(Source::Blocks(blocks)),
-        Expected::Bad(_) => read_both(l, blocks, at, names),
+        Expected::Bad(_) => read_both(l, blocks, at),
     }
 }
 
-fn read_form(l: &[u8], at: usize, names: Names) -> SourceRead
-    ensures { result ≡ source_from least_blocks names l.now at }
+fn read_form(l: &[u8], at: usize) -> SourceRead
+    ensures { result ≡ source_from least_blocks l.now at }
 {
     match read_expected(l, at, b'-') {
-        Expected::Past(i) => read_stashes(l, i, names),
+        Expected::Past(i) => read_stashes(l, i),
         Expected::Bad(_) => match read_ranges(l, at, LEAST_BLOCKS) {
             Ranges::Bad(p) => SourceRead::Bad(p),
-            Ranges::Good(blocks, i) => read_after_blocks(l, blocks, i, names),
+            Ranges::Good(blocks, i) => read_after_blocks(l, blocks, i),
         },
     }
 }
 
 // A space and a source, to the line's end.
-pub(crate) fn read_source(l: &[u8], at: usize, names: Names) -> SourceRead
-    ensures { result ≡ source_field least_blocks names l.now at }
+pub(crate) fn read_source(l: &[u8], at: usize) -> SourceRead
+    ensures { result ≡ source_field least_blocks l.now at }
 {
     match read_expected(l, at, b' ') {
         Expected::Bad(p) => SourceRead::Bad(p),
-        Expected::Past(i) => read_form(l, i, names),
+        Expected::Past(i) => read_form(l, i),
     }
 }

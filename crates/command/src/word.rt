@@ -1,9 +1,7 @@
 // The word that a line starts with.
 ghost use Rattle.std.specs.Prelude.{◌≡◌, length, max};
-ghost use Rattle.command.specs.Words.{range_word, sourced_word, name_word, stash_words_of, word_of, shared, shared_most, word_fault};
+ghost use Rattle.command.specs.Words.{range_word, hash_word, word_of, shared, word_fault};
 
-use crate::sourced::Purpose;
-use crate::version::Version;
 use text::word::first_word_is;
 
 // A word that a range set follows.
@@ -14,9 +12,10 @@ pub enum RangeWord {
     New,
 }
 
-// A word that the name of a stash follows.
+// A word that a hash follows.
 #[derive(Drop)]
-pub enum NameWord {
+pub enum HashWord {
+    Move,
     Stash,
     Free,
 }
@@ -24,8 +23,8 @@ pub enum NameWord {
 #[derive(Drop)]
 pub enum Word {
     Ranges(RangeWord),
-    Sourced(Purpose),
-    Named(NameWord),
+    Hash(HashWord),
+    Bsdiff,
     Imgdiff,
     Unknown,
 }
@@ -42,13 +41,14 @@ impl RangeWord {
     }
 }
 
-impl NameWord {
+impl HashWord {
     pub(crate) fn len(self) -> usize
-        ensures { result ≡ length (name_word self) }
+        ensures { result ≡ length (hash_word self) }
     {
         match self {
-            NameWord::Stash => b"stash".len(),
-            NameWord::Free => b"free".len(),
+            HashWord::Move => b"move".len(),
+            HashWord::Stash => b"stash".len(),
+            HashWord::Free => b"free".len(),
         }
     }
 }
@@ -66,16 +66,16 @@ pub(crate) fn word_of(l: &[u8]) -> Word
         return Word::Ranges(RangeWord::New);
     }
     if first_word_is(l, b"move") {
-        return Word::Sourced(Purpose::Move);
-    }
-    if first_word_is(l, b"bsdiff") {
-        return Word::Sourced(Purpose::Bsdiff);
+        return Word::Hash(HashWord::Move);
     }
     if first_word_is(l, b"stash") {
-        return Word::Named(NameWord::Stash);
+        return Word::Hash(HashWord::Stash);
     }
     if first_word_is(l, b"free") {
-        return Word::Named(NameWord::Free);
+        return Word::Hash(HashWord::Free);
+    }
+    if first_word_is(l, b"bsdiff") {
+        return Word::Bsdiff;
     }
     if first_word_is(l, b"imgdiff") {
         return Word::Imgdiff;
@@ -109,22 +109,12 @@ fn shared_bytes(l: &[u8], word: &[u8]) -> usize
     k
 }
 
-// The most that a line shares with the words that version 1 lacks.
-fn shared_with_stashes(l: &[u8], version: Version) -> usize
-    ensures { result ≡ shared_most (stash_words_of version) l.now }
-{
-    match version {
-        Version::One => 0,
-        Version::Two => larger(shared_bytes(l, b"stash"), shared_bytes(l, b"free")),
-        Version::Three => larger(shared_bytes(l, b"stash"), shared_bytes(l, b"free")),
-    }
-}
-
 // The first byte of a line at which none of the words of good lines could go on.
-pub(crate) fn word_fault(l: &[u8], version: Version) -> usize
-    ensures { result ≡ word_fault version l.now }
+pub(crate) fn word_fault(l: &[u8]) -> usize
+    ensures { result ≡ word_fault l.now }
 {
-    let after = larger(shared_bytes(l, b"bsdiff"), shared_with_stashes(l, version));
+    let after = larger(shared_bytes(l, b"free"), shared_bytes(l, b"bsdiff"));
+    let after = larger(shared_bytes(l, b"stash"), after);
     let after = larger(shared_bytes(l, b"move"), after);
     let after = larger(shared_bytes(l, b"new"), after);
     let after = larger(shared_bytes(l, b"erase"), after);

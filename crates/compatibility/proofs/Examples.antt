@@ -24,7 +24,7 @@ use Rattle.command.specs.Faults.{fault_of, fault_byte}
 use Rattle.command.specs.Words.{word_in, shared, shared_most}
 use Rattle.command.specs.Fields.{number_field, hash_field, set_field, last_set}
 use Rattle.command.specs.Parts.{part_end, places_from, part_at, parts_in, parts_at, parts_field, uses_in, uses_at}
-use Rattle.command.specs.Commands.{range_line, after_dash, with_places, after_blocks, source_from, source_field, length_from, target_from, stash_from, free_from, hashedLine, digest_from, patched_line, lengthLine, bsdiffLine, command_of}
+use Rattle.command.specs.Commands.{range_line, after_dash, with_places, after_blocks, source_from, source_field, length_from, target_from, stash_from, free_from, hashed_line, digest_from, patched_line, length_line, bsdiff_line, command_of}
 use Rattle.command.specs.Filling.{fills}
 use Rattle.command.specs.declared.Command.TheVariants.{Bad}
 use Rattle.command.specs.Targets.{new_target}
@@ -97,7 +97,7 @@ lines-found : found lines ≡ expected lines
 unfolding meets reaches can_meet end_of digits number_from number_for expected_at digit_of digit_at octet_at octets_at hash_of hash_at is_first_word
     item_at pair_at pairs_at set_at summary ranges_at word_in shared shared_most number_field hash_field set_field last_set part_end places_from part_at
     parts_in parts_at parts_field uses_in uses_at after_dash with_places after_blocks source_from source_field length_from target_from stash_from free_from range_line
-    hashedLine digest_from patched_line lengthLine bsdiffLine command_of pairs_of ranges_of
+    hashed_line digest_from patched_line length_line bsdiff_line command_of pairs_of ranges_of
     some_empty empty_in_set empty_in_uses empty_in_source empty_in_command has_empty
 lines-found = refl
 
@@ -170,7 +170,7 @@ ready =
 stopped-before : (says least_before moving [] ready ≡ outcome.Stop) × (says least_blocks moving [] ready ≡ outcome.Refused (refusing 17 0))
 unfolding meets reaches can_meet end_of digits number_from number_for expected_at digit_of digit_at octet_at octets_at hash_of hash_at is_first_word item_at pair_at pairs_at
     set_at size_of sets.end_of summary ranges_at word_in shared shared_most number_field hash_field set_field last_set after_blocks source_from source_field length_from
-    target_from hashedLine command_of fault_of fault_byte fills line_of line_at lfs_in line_number source_past source_over uses_by some_missing source_differs places_by some_misplaced
+    target_from hashed_line command_of fault_of fault_byte fills line_of line_at lfs_in line_number source_past source_over uses_by some_missing source_differs places_by some_misplaced
     sourced_refusal move_refusal refusal_for refusal_of header_line_at header_of are_areas start_refusal entries held_in held_twice holds_empty blocks_held
     same_lengths at_line can_hold has_more can_be_into can_be_ready can_be_stretched possible_under is_possible terms_under terms_for
     fill_step step_of stops_after halts_at new_bytes is_stopped needs_byte run_of new_target is_run leaves stops says

@@ -20,10 +20,10 @@ use Rattle.ranges.specs.Ranges.{least_blocks, ranges_at, on_ranges}
 use Rattle.ranges.specs.declared.RangeSet.{RangeSet}
 use Rattle.ranges.specs.declared.Ranges.{Ranges}
 use Rattle.ranges.specs.declared.Ranges.TheVariants as ranges
-use Rattle.command.specs.Words.{range_word, hashWord, spelling, word_of}
+use Rattle.command.specs.Words.{range_word, hash_word, spelling, word_of}
 use Rattle.command.specs.Fields.{number_field, hash_field, set_field, last_set}
 use Rattle.command.specs.Parts.{uses_at, parts_at, parts_field, on_parts}
-use Rattle.command.specs.Commands.{with_set, range_line, after_dash, with_places, after_blocks, source_from, source_field, on_source, command_for, length_from, target_from, stash_from, free_from, afterHash, hashedLine, digest_from, patched_line, lengthLine, bsdiffLine, line_by, command_of}
+use Rattle.command.specs.Commands.{with_set, range_line, after_dash, with_places, after_blocks, source_from, source_field, on_source, command_for, length_from, target_from, stash_from, free_from, after_hash, hashed_line, digest_from, patched_line, length_line, bsdiff_line, line_by, command_of}
 use Rattle.command.specs.declared.word.RangeWord.{RangeWord}
 use Rattle.command.specs.declared.word.RangeWord.TheVariants as range
 use Rattle.command.specs.declared.word.HashWord.{HashWord}
@@ -295,7 +295,7 @@ module _ (l : List ℕ) where
   unfolding free_from empty_in_command
   free_told at = told-expected IllCommand (empty_in_command l) Bad ill-command (expected_at l at lf) _ _ (λ next. inl (refl, refl))
 
-  after-told : (w : HashWord) (at : ℕ) → CommandTold (afterHash least_before l w at) (afterHash least_blocks l w at)
+  after-told : (w : HashWord) (at : ℕ) → CommandTold (after_hash least_before l w at) (after_hash least_blocks l w at)
   unfolding stash_from empty_in_command
   after-told hash.Move at = target_told purpose.Move at
   after-told hash.Stash at = set_then Stash (last_set least_before l at) (last_set least_blocks l at) (λ set. refl) (last-told at)
@@ -331,13 +331,13 @@ module _ (l : List ℕ) where
   number-told (number.Good v i) f g h = h v i
   number-told (number.Bad p) f g h = record { hash = refl; command = bad-told p }
 
-  bsdiff_told : LineTold (bsdiffLine least_before l) (bsdiffLine least_blocks l)
-  unfolding bsdiffLine lengthLine
+  bsdiff_told : LineTold (bsdiff_line least_before l) (bsdiff_line least_blocks l)
+  unfolding bsdiff_line length_line
   bsdiff_told =
       number-told (number_field l (length (spelling word.Bsdiff))) _ _ (λ start i. number-told (number_field l i) _ _ (λ size. patched-told))
 
   word-told : (w : Word) → LineTold (line_by least_before l w) (line_by least_blocks l w)
-  unfolding range_line hashedLine empty_in_command
+  unfolding range_line hashed_line empty_in_command
   word-told (word.Ranges w) =
       record {
         hash = refl;
@@ -347,7 +347,7 @@ module _ (l : List ℕ) where
   word-told (word.Hash w) =
       record {
         hash = refl;
-        command = told-expected IllCommand (empty_in_command l) Bad ill-command (hash_field l (length (hashWord w))).read _ _ (after-told w);
+        command = told-expected IllCommand (empty_in_command l) Bad ill-command (hash_field l (length (hash_word w))).read _ _ (after-told w);
       }
   word-told word.Bsdiff = bsdiff_told
   word-told word.Imgdiff = record { hash = refl; command = inl (refl, refl) }

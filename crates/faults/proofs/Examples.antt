@@ -16,7 +16,7 @@ use Rattle.command.specs.Words.{word_in, shared, shared_most}
 use Rattle.command.specs.Fields.{number_field, hash_field, set_field, last_set}
 use Rattle.command.specs.Parts.{part_end, places_from, part_at, parts_in, parts_at, parts_field}
 use Rattle.command.specs.Commands.{after_dash, with_places, after_blocks, source_from, source_field, length_from, target_from, stash_from, free_from}
-use Rattle.command.specs.Commands.{range_line, hashedLine, digest_from, patched_line, lengthLine, bsdiffLine, command_of}
+use Rattle.command.specs.Commands.{range_line, hashed_line, digest_from, patched_line, length_line, bsdiff_line, command_of}
 use Rattle.faults.specs.Language.{Finding, good, fault}
 use Rattle.faults.specs.Findings.{finding_at}
 
@@ -168,7 +168,7 @@ commands-found : (commands sets ≡ expected sets) × (commands lines ≡ expect
 unfolding meets reaches can_meet end_of digits number_from number_for expected_at digit_of digit_at octet_at octets_at hash_of hash_at is_first_word
     item_at pair_at pairs_at set_at summary ranges_at word_in shared shared_most number_field hash_field set_field last_set part_end places_from part_at
     parts_in parts_at parts_field after_dash with_places after_blocks source_from source_field length_from target_from stash_from free_from range_line
-    hashedLine digest_from patched_line lengthLine bsdiffLine command_of finding_at
+    hashed_line digest_from patched_line length_line bsdiff_line command_of finding_at
 commands-found = (refl, refl)
 
 -- ---- header lines, the second at position 2

@@ -43,8 +43,8 @@ module _ {A : Type 0} (e : Ending A) where
   abbrev pub after-set : (sets.RangeSet → ℕ → A) → Ending Ranges
   after-set g = record { of = λ r. e.of (on_ranges r g e.bad); bad = ranges.Bad; is = e.is }
 
-  abbrev pub after-hash : (ℕ → A) → Ending hashes.Hash
-  after-hash g =
+  abbrev pub after_hash_lem : (ℕ → A) → Ending hashes.Hash
+  after_hash_lem g =
       record { of = λ h. e.of (on_expected h.read g e.bad); bad = λ p. record { read = expected.Bad p; bytes = no_hash }; is = e.is }
 
 pub end-apart : Apart LineEnd
@@ -117,7 +117,7 @@ module _ (l : List ℕ) {A : Type 0} (e : Ending A) where
   pub hash_field_lem : {K : Language} {at : ℕ} (g : ℕ → A) → ((next : ℕ) → At l K next (e.of (g next))) →
       At l (lines.Hashed K) at (e.of (on_expected (hash_field l at).read g e.bad))
   unfolding hash_field
-  hash_field_lem g x = space-then l (after-hash e g) (hash_at l) (λ i. hash-then l e g (λ next h. x next))
+  hash_field_lem g x = space-then l (after_hash_lem e g) (hash_at l) (λ i. hash-then l e g (λ next h. x next))
 
 -- a set and the line's end
 pub last_set_lem : (l : List ℕ) {A : Type 0} (e : Ending A) {at : ℕ} (g : sets.RangeSet → ℕ → A) →

@@ -11,8 +11,8 @@ use Rattle.ranges.specs.Ranges.{least_blocks}
 use Rattle.ranges.specs.declared.RangeSet as sets
 use Rattle.command.specs.Words.{spelling}
 use Rattle.command.specs.Commands.{after_dash, with_places, after_blocks, source_from, source_field, on_source, command_for, length_from, target_from}
-use Rattle.command.specs.Commands.{plain, with_set, range_line, stash_from, free_from, hashedLine, line_by}
-use Rattle.command.specs.Commands.{digest_from, patched_line, lengthLine, bsdiffLine}
+use Rattle.command.specs.Commands.{plain, with_set, range_line, stash_from, free_from, hashed_line, line_by}
+use Rattle.command.specs.Commands.{digest_from, patched_line, length_line, bsdiff_line}
 use Rattle.command.specs.declared.word.RangeWord.{RangeWord}
 use Rattle.command.specs.declared.word.RangeWord.TheVariants as range
 use Rattle.command.specs.declared.word.HashWord.TheVariants as hash
@@ -100,7 +100,7 @@ module _ (l : List ℕ) where
       (λ n j. source_field_lem l command (command_for p target n) (sourced-good p target n)))
 
   pub rest-found : (w : Word) → GoodWord w → At l (Rest w) (length (spelling w)) (finding_at 0 (line_by least_blocks l w).command)
-  unfolding Rest range_line hashedLine stash_from free_from bsdiffLine lengthLine patched_line digest_from finding_at
+  unfolding Rest range_line hashed_line stash_from free_from bsdiff_line length_line patched_line digest_from finding_at
   rest-found (word.Ranges w) a = last_set_lem l command _ (λ set next. range_good w set)
   rest-found (word.Hash hash.Move) a = hash_field_lem l command _ (sourced-found purpose.Move)
   rest-found (word.Hash hash.Stash) a = hash_field_lem l command _ (λ i. last_set_lem l command _ (λ set next. refl))

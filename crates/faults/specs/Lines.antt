@@ -1,4 +1,4 @@
--- Document 01, "The list text", and document 02, R-4, R-6, R-7 and R-10: which lines are good, in each version. Nothing here speaks of positions or of how a line is read. Length
+-- Document 01, "The list text", and document 02, R-4, R-6 and R-7: which lines are good. Nothing here speaks of positions or of how a line is read. Length
 -- limits, and refusals other than 3, 6 and 7, do not matter: a line of `imgdiff` is not good, a target past the image is.
 -- Assumes nothing: these are definitions.
 use Rattle.std.specs.Prelude.{ℕ, zero, suc, ◌-◌, ◌/◌, ◌≤◌, ◌<◌, ◌≡◌, Bool, true, ◌⊎◌, List, [], ◌∷◌, leb, ltb}
@@ -7,12 +7,7 @@ use Rattle.text.specs.Expected.{space, lf, comma, colon, dash}
 use Rattle.text.specs.Number.{largest, is_digit, then, is_count}
 use Rattle.text.specs.Hash.{hash_bytes}
 use Rattle.command.specs.Words.{spelling}
-use Rattle.command.specs.declared.version.Version.{Version}
-use Rattle.command.specs.declared.version.Version.TheVariants.{One, Two, Three}
-use Rattle.command.specs.declared.sourced.Purpose.{Purpose}
-use Rattle.command.specs.declared.sourced.Purpose.TheVariants as purpose
-use Rattle.command.specs.declared.word.NameWord.{NameWord}
-use Rattle.command.specs.declared.word.NameWord.TheVariants as name
+use Rattle.command.specs.declared.word.HashWord.TheVariants as hash
 use Rattle.command.specs.declared.word.Word.{Word}
 use Rattle.command.specs.declared.word.Word.TheVariants as word
 use Rattle.faults.specs.Language.{Language, End, Byte, Or}
@@ -66,28 +61,27 @@ Pairs (suc n) K = Pair (Pairs n K)
 unfoldable pub RangeSet : Language → Language
 RangeSet K = NumberThat is_count (λ count. Pairs (count / 2) K)
 
--- ---- sources: `S`; `- P ..`; `S L P ..`, with at least one P; P is `H:L`, and in version 2 a number stands for H. `Name` is what a stash is
--- named by, Hash or Number
+-- ---- sources: `S`; `- P ..`; `S L P ..`, with at least one P; P is `H:L`
 
 abbrev pub LineEnd : Language
 LineEnd = Byte lf End
 
-abbrev pub Part : (Language → Language) → Language → Language
-Part Name K = Name (Byte colon (RangeSet K))
+abbrev pub Part : Language → Language
+Part K = Hash (Byte colon (RangeSet K))
 
 -- up to n Ps, one at least, and the line's end
-unfoldable pub PartsOf : (Language → Language) → ℕ → Language
-PartsOf Name zero = λ s. ⊥
-PartsOf Name (suc n) = Part Name (Or LineEnd (Byte space (PartsOf Name n)))
+unfoldable pub PartsOf : ℕ → Language
+PartsOf zero = λ s. ⊥
+PartsOf (suc n) = Part (Or LineEnd (Byte space (PartsOf n)))
 
 -- one P or more, and the line's end
-unfoldable pub Parts : (Language → Language) → Language
-Parts Name s = (n : ℕ) × PartsOf Name n s
+unfoldable pub Parts : Language
+Parts s = (n : ℕ) × PartsOf n s
 
-unfoldable pub Source : (Language → Language) → Language
-Source Name =
-    Or (Byte dash (Byte space (Parts Name)))
-    (RangeSet (Or LineEnd (Byte space (RangeSet (Byte space (Parts Name))))))
+unfoldable pub Source : Language
+Source =
+    Or (Byte dash (Byte space Parts))
+    (RangeSet (Or LineEnd (Byte space (RangeSet (Byte space Parts)))))
 
 -- ---- lines: fields are parted by one space
 
@@ -95,45 +89,24 @@ Source Name =
 unfoldable pub LastSet : Language
 LastSet = Byte space (RangeSet LineEnd)
 
--- ` S R`, to the line's end
-unfoldable pub TwoSets : Language
-TwoSets = Byte space (RangeSet LastSet)
-
 -- ` R N ` and a source
-unfoldable pub Sourced : (Language → Language) → Language
-Sourced Name = Byte space (RangeSet (Byte space (Number (Byte space (Source Name)))))
+unfoldable pub Sourced : Language
+Sourced = Byte space (RangeSet (Byte space (Number (Byte space Source))))
 
 -- ` H` and what follows it
 abbrev pub Hashed : Language → Language
 Hashed K = Byte space (Hash K)
 
--- ` n` and what follows it
-abbrev pub Numbered : Language → Language
-Numbered K = Byte space (Number K)
-
--- what a `move` has after its word, and a `bsdiff` after O and B: `S R`; `R N ..`; `H R N ..`, with T after the H of a `bsdiff`
-unfoldable pub SourcedRest : Version → Purpose → Language
-SourcedRest One p = TwoSets
-SourcedRest Two p = Sourced Number
-SourcedRest Three purpose.Move = Hashed (Sourced Hash)
-SourcedRest Three purpose.Bsdiff = Hashed (Hashed (Sourced Hash))
-
--- what follows the name of a stash: `stash H S`, `free H`
-unfoldable pub NamedRest : NameWord → Language
-NamedRest name.Stash = LastSet
-NamedRest name.Free = LineEnd
-
--- what follows a word: `zero R`, `erase R`, `new R`; `move ..`; `bsdiff O B ..`; `stash` and `free`, which version 1 lacks
-unfoldable pub Rest : Version → Word → Language
-Rest version (word.Ranges w) = LastSet
-Rest version (word.Sourced purpose.Move) = SourcedRest version purpose.Move
-Rest version (word.Sourced purpose.Bsdiff) = Numbered (Numbered (SourcedRest version purpose.Bsdiff))
-Rest One (word.Named w) = λ s. ⊥
-Rest Two (word.Named w) = Numbered (NamedRest w)
-Rest Three (word.Named w) = Hashed (NamedRest w)
+-- what follows a word: `zero R`, `erase R`, `new R`; `move H R N ..`, `stash H S`, `free H`; `bsdiff O B H T R N ..`
+unfoldable pub Rest : Word → Language
+Rest (word.Ranges w) = LastSet
+Rest (word.Hash hash.Move) = Hashed Sourced
+Rest (word.Hash hash.Stash) = Hashed LastSet
+Rest (word.Hash hash.Free) = Hashed LineEnd
+Rest word.Bsdiff = Byte space (Number (Byte space (Number (Hashed (Hashed Sourced)))))
 -- no good line begins with one of these
-Rest version word.Imgdiff = λ s. ⊥
-Rest version word.Unknown = λ s. ⊥
+Rest word.Imgdiff = λ s. ⊥
+Rest word.Unknown = λ s. ⊥
 
 -- the bytes of a word
 unfoldable pub Bytes : List ℕ → Language → Language
@@ -141,8 +114,8 @@ Bytes [] K = K
 Bytes (c ∷ bytes) K = Byte c (Bytes bytes K)
 
 -- a good command line: a word and what follows it
-unfoldable pub CommandLine : Version → Language
-CommandLine version s = (w : Word) × Bytes (spelling w) (Rest version w) s
+unfoldable pub CommandLine : Language
+CommandLine s = (w : Word) × Bytes (spelling w) (Rest w) s
 
 -- a good header line: a number
 unfoldable pub HeaderLine : Language

@@ -22,8 +22,8 @@ use Rattle.state.proofs.StashLaws.{same_refl, same_eq}
 use Rattle.command.specs.Words.{word_in}
 use Rattle.command.specs.Fields.{number_field, hash_field, set_field, last_set}
 use Rattle.command.specs.Parts.{part_end, places_from, part_at, parts_in, parts_at, parts_field, uses_in, uses_at}
-use Rattle.command.specs.Commands.{range_line, with_places, after_blocks, source_from, source_field, length_from, target_from, free_from, hashedLine, digest_from}
-use Rattle.command.specs.Commands.{patched_line, lengthLine, bsdiffLine, command_of}
+use Rattle.command.specs.Commands.{range_line, with_places, after_blocks, source_from, source_field, length_from, target_from, free_from, hashed_line, digest_from}
+use Rattle.command.specs.Commands.{patched_line, length_line, bsdiff_line, command_of}
 use Rattle.command.specs.Patching.{patching_from, patching_of, result_hash}
 use Rattle.command.specs.Faults.{fault_of, fault_byte}
 use Rattle.command.specs.Targets.{new_target}
@@ -125,7 +125,7 @@ module _ (A B C D E F G H T1 T2 T3 W1 W2 W3 : Block) where
   table : Table A B C D E F G H T1 T2 T3 W1 W2 W3
   unfolding meets reaches can_meet endOfNumber digits number_from number_for expected_at is_first_word item_at pair_at pairs_at set_at size_of end_of summary ranges_at span blocks_of pairs_of
       ranges_of blocks_at AllBelow hex_of word_in number_field hash_field set_field last_set range_line with_places after_blocks source_from source_field
-      length_from target_from free_from hashedLine digest_from patched_line lengthLine bsdiffLine command_of part_end places_from part_at parts_in parts_at parts_field uses_in uses_at find_in is_held size_at blocks_held without source_past source_over uses_by some_missing stash_blocks
+      length_from target_from free_from hashed_line digest_from patched_line length_line bsdiff_line command_of part_end places_from part_at parts_in parts_at parts_field uses_in uses_at find_in is_held size_at blocks_held without source_past source_over uses_by some_missing stash_blocks
       some_differ places_named source_differs places_of places_by is_in some_misplaced sourced_refusal move_refusal free_refusal refusal_for refusal_of stash_bytes
       fault_of fault_byte spread supplied together closed_up hashes_to new_target held_after move_filled filled written_from filled_written unfinished_effect blocks_hash_to is_finished effect picked_of put_at zeroed is_stretch stretch_blocks stretched
   table =

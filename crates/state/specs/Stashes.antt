@@ -1,10 +1,9 @@
--- Document 01, "The stash area" and "Calls", and document 02, R-9 and R-10: the stashes that are held, oldest first, each with its hash and its number of blocks.
+-- Document 01, "The stash area" and "Calls", and document 02, R-9: the stashes that are held, oldest first, each with its hash and its number of blocks.
 -- Assumes nothing: these are definitions.
 use Rattle.std.specs.Prelude.{ℕ, zero, suc, ◌+◌, ◌-◌, ◌*◌, ◌≤◌, min, ◌≡◌, Bool, true, false, List, [], ◌∷◌, length, take, drop, get_or, set, replicate, eqb, ltb, leb}
 use Rattle.std.proofs.Math.Seq.{paste}
-use Rattle.text.specs.Choice.{pick, both, either, no}
+use Rattle.text.specs.Choice.{pick, both, either}
 use Rattle.text.specs.Hash.{hash_bytes}
-use Rattle.text.specs.NumberHash.{is_number_hash}
 use Rattle.state.specs.Limits.{most_stashes, table_bytes}
 use Rattle.state.specs.declared.stashes.Found.{Found}
 use Rattle.state.specs.declared.stashes.Found.TheVariants.{At, Nothing}
@@ -100,11 +99,6 @@ blocks_held (x ∷ xs) = x.blocks + blocks_held xs
 unfoldable pub holds_empty : List Stash → Bool
 holds_empty [] = false
 holds_empty (x ∷ xs) = either (eqb x.blocks 0) (holds_empty xs)
-
--- R-10: some stash is held under a hash that no number is held as
-unfoldable pub holds_other : List Stash → Bool
-holds_other [] = false
-holds_other (x ∷ xs) = either (no (is_number_hash x.hash)) (holds_other xs)
 
 -- the block of the stash area where entry j starts: stashes lie back to back from the front, oldest first
 abbrev pub stash_start : List Stash → ℕ → ℕ

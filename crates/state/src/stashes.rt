@@ -3,13 +3,12 @@ ghost use Rattle.std.specs.Prelude.{◌≡◌, List, ℕ, ◌+◌, ◌-◌, ◌*
 ghost use Rattle.std.proofs.Math.Seq.{paste};
 ghost use Rattle.text.specs.Hash.{hash_bytes};
 ghost use Rattle.state.specs.Limits.{most_stashes};
-ghost use Rattle.state.specs.Stashes.{table_at, entry_hash, entries, held_in, same, find_in, is_held, held_twice, holds_empty, holds_other, size_at, blocks_held};
+ghost use Rattle.state.specs.Stashes.{table_at, entry_hash, entries, held_in, same, find_in, is_held, held_twice, holds_empty, size_at, blocks_held};
 ghost use Rattle.state.specs.Stashes.{holding, releasing};
 ghost use Rattle.state.specs.Sums.{bounded};
 
 use crate::limits::{HASH_BYTES, MOST_STASHES, TABLE_BYTES};
 use crate::sums::bounded_sum;
-use text::number_hash::is_number_hash;
 
 // Where a stash is among those held.
 #[derive(Drop)]
@@ -133,24 +132,6 @@ pub fn holds_empty(sizes: &[usize; MOST_STASHES], count: usize) -> bool
     let mut j = 0;
     while j < n {
         if sizes[j] == 0 {
-            return true;
-        }
-        j += 1;
-    }
-    false
-}
-
-// Some stash is held under a hash that no number is held as.
-pub fn holds_other(hashes: &[u8; TABLE_BYTES], count: usize) -> bool
-    ensures { (sizes : List ℕ) → result ≡ holds_other (held_in (table_at hashes.now sizes count)) }
-{
-    let table = &hashes[..];
-    let n = held_count(count);
-    let mut j = 0;
-    while j < n {
-        let from = HASH_BYTES * j;
-        let to = from + HASH_BYTES;
-        if !is_number_hash(&table[from..to]) {
             return true;
         }
         j += 1;

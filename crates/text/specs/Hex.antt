@@ -1,6 +1,6 @@
 -- Hexadecimal text, as it is written: two characters for a byte, the higher digit first.
 -- Assumes nothing: these are definitions.
-use Rattle.std.specs.Prelude.{ℕ, zero, suc, ◌+◌, ◌/◌, ◌%◌, List, [], ◌∷◌, ◌++◌, drop, get_or, ltb}
+use Rattle.std.specs.Prelude.{ℕ, zero, suc, ◌+◌, ◌/◌, ◌%◌, List, [], ◌∷◌, drop, get_or, ltb}
 use Rattle.text.specs.Choice.{pick}
 
 -- the character of a digit
@@ -11,8 +11,3 @@ hex_digit d = pick (ltb d 10) (48 + d) (87 + d)
 unfoldable pub hex_of : ℕ → List ℕ → List ℕ
 hex_of zero bytes = []
 hex_of (suc n) bytes = hex_digit (get_or bytes 0 0 / 16) ∷ hex_digit (get_or bytes 0 0 % 16) ∷ hex_of n (drop 1 bytes)
-
--- a number in k digits, the lowest last
-unfoldable pub hex_number : ℕ → ℕ → List ℕ
-hex_number zero n = []
-hex_number (suc k) n = hex_number k (n / 16) ++ (hex_digit (n % 16) ∷ [])

@@ -10,7 +10,6 @@ pub mod library;
 mod numbers;
 pub mod raw;
 pub mod record;
-pub mod told;
 
 pub use hex::hex;
 pub use library::Library;

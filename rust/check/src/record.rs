@@ -53,10 +53,6 @@ impl Record {
     }
 
     pub fn hash(&self, key: &str) -> Read<Hash> {
-        // Read as bytes it would be another hash's.
-        if self.text(key)?.bytes().any(|c| c.is_ascii_uppercase()) {
-            return Err(format!("{key} is in upper case, which no state of bytes has"));
-        }
         self.bytes(key)?.try_into().map_err(|_| format!("{key} is no hash"))
     }
 

@@ -1,4 +1,4 @@
-//! The rules of document 01, with of document 02, written twice, apart from the proved code: [`plain`] in plain loops,
+//! The rules of document 01, with of document 02, written twice, apart from the proved code: [`plain`] in plain loops,
 //! [`model`] slowly and by other means. The limits, the types, SHA-1 and the saved form are all that the two share.
 
 #![forbid(unsafe_code)]
@@ -84,8 +84,7 @@ impl Areas<'_> {
     }
 }
 
-/// What a run carries from call to call. Stash k of `count`, oldest first: its hash at `hashes[20 * k..]`, its blocks in `sizes[k]`. In version 2 a
-/// stash has a number, and the hash is 16 bytes of zero and that number, the high byte first.
+/// What a run carries from call to call. Stash k of `count`, oldest first: its hash at `hashes[20 * k..]`, its blocks in `sizes[k]`.
 /// `total` is what all calls took, modulo 2^64; `ready` says, by any number but 0, that the work area, for a `bsdiff` the result area, is filled and
 /// only to be written from; `stretches` are those that the line's `free` has done.
 #[derive(Clone, Copy, PartialEq, Eq, Debug)]

@@ -1,10 +1,109 @@
 //! Stops, and runs that are taken up again after a cut: document 02, R-9. Each call is made in both ways, which must agree.
 
-mod common;
+use reference::model::{self, Writes};
+use reference::{digest, plain, saved, Answer, Areas, Hash, Lengths, Outcome, Refusal, Rooms, State, BLOCK};
 
-use common::{blocks, bytes, cut_in, name, patch_of, refused, Lent, STOP};
-use reference::model::Writes;
-use reference::{saved, Lengths, Outcome, Refusal, State, BLOCK};
+fn blocks(letters: &str) -> Vec<u8> {
+    letters.bytes().flat_map(|c| [if c == b'0' { 0 } else { c }; BLOCK]).collect()
+}
+
+/// The letter of each block, `0` for zeros, `?` for a block of several bytes.
+fn letters(bytes: &[u8]) -> String {
+    let letter = |b: &[u8]| match b[0] {
+        c if b.iter().any(|x| *x != c) => '?',
+        0 => '0',
+        c => c as char,
+    };
+    bytes.chunks(BLOCK).map(letter).collect()
+}
+
+fn name(letters: &str) -> String {
+    digest(&blocks(letters)).iter().map(|byte| format!("{byte:02x}")).collect()
+}
+
+#[derive(Clone, PartialEq)]
+struct Lent {
+    list: Vec<u8>,
+    image: Vec<u8>,
+    stash: Vec<u8>,
+    work: Vec<u8>,
+    result: Vec<u8>,
+    patch: Vec<u8>,
+}
+
+impl Lent {
+    /// An image of eight blocks, seven of stash area, three of work area and three of result area.
+    fn new(list: &str) -> Lent {
+        let (image, stash, work, result) = (blocks("ABCDEFGH"), blocks("stuvwxy"), blocks("mno"), blocks("pqr"));
+        Lent { list: list.as_bytes().to_vec(), image, stash, work, result, patch: Vec::new() }
+    }
+
+    fn areas(&mut self) -> (&[u8], Areas<'_>) {
+        let Lent { list, image, stash, work, result, patch } = self;
+        (list, Areas { image, stash, work, result, patch })
+    }
+
+    fn rooms(&self) -> Rooms {
+        let Lent { image, stash, work, result, patch, .. } = self;
+        Rooms { image: image.len(), stash: stash.len(), work: work.len(), result: result.len(), patch: patch.len() }
+    }
+
+    fn letters(&self) -> [String; 4] {
+        [&self.image, &self.stash, &self.work, &self.result].map(|area| letters(area))
+    }
+
+    fn open(&self) -> State {
+        let state = plain::open(&self.list, self.rooms());
+        assert_eq!(state.refusal, Refusal { number: 0, line: 0, byte: 0 });
+        assert!(state == model::open(&self.list, self.rooms()));
+        state
+    }
+
+    /// At the first command line, with these stashes; they need not be in the stash area.
+    fn holding(&self, stashes: &[(&str, usize)]) -> State {
+        let mut state = State { line: 5, at: 8, count: stashes.len(), lengths: Lengths::of(&self.list, self.rooms()), ..State::ZERO };
+        for (k, (name, size)) in stashes.iter().enumerate() {
+            let hash: Hash = digest(&blocks(name));
+            state.hashes[20 * k..20 * k + 20].copy_from_slice(&hash);
+            state.sizes[k] = *size;
+        }
+        state
+    }
+
+    fn call(&mut self, piece: &[u8], state: &mut State) -> (Outcome, usize) {
+        let mut other = self.clone();
+        let (list, areas) = other.areas();
+        let slow = model::call(list, areas, piece, *state);
+        let (list, areas) = self.areas();
+        let called = plain::call(list, areas, piece, state);
+        assert!(slow == Answer { state: *state, outcome: called.outcome, taken: called.taken });
+        assert!(other == *self);
+        (called.outcome, called.taken)
+    }
+
+    /// To where the run ends.
+    fn call_on(&mut self, piece: &[u8], state: &mut State) -> (Outcome, usize) {
+        let mut other = self.clone();
+        let (list, areas) = other.areas();
+        let slow = model::through(list, areas, piece, *state);
+        let (list, areas) = self.areas();
+        let called = plain::call_on(list, areas, piece, state);
+        assert!(slow == Answer { state: *state, outcome: called.outcome, taken: called.taken });
+        assert!(other == *self);
+        (called.outcome, called.taken)
+    }
+
+    fn writes(&mut self, data: &[u8], state: &State) -> Writes {
+        let (list, areas) = self.areas();
+        model::writes(list, &areas, data, state)
+    }
+}
+
+fn refused(number: usize, line: usize) -> Outcome {
+    Outcome::Refused(Refusal { number, line, byte: 0 })
+}
+
+const STOP: (Outcome, usize) = (Outcome::Stop, 0);
 
 #[test]
 fn a_move_stops_after_filling_and_after_writing() {
@@ -164,9 +263,18 @@ fn the_total_goes_on_modulo_two_to_the_64() {
     assert_eq!(state.total, BLOCK as u64 - 1);
 }
 
+/// Of these blocks.
+fn bytes(first: usize, end: usize) -> Vec<std::ops::Range<usize>> {
+    std::iter::once(first * BLOCK..end * BLOCK).collect()
+}
+
 /// A list with every command, of several segments, its data, and what each segment writes.
 fn long_run() -> (Lent, Vec<u8>, Vec<Writes>) {
-    let records = patch_of(&[1; BLOCK], &blocks("Q"));
+    let patch = |add: &[u8], extra: &[u8]| {
+        let number = |n: usize| (n as u64).to_le_bytes();
+        [b"CP", &number(add.len())[..], &number(extra.len()), &number(0), add, extra].concat()
+    };
+    let records = patch(&[1; BLOCK], &blocks("Q"));
     let list = [
         "3\n13\n4\n6".into(),
         format!("stash {} 2,0,2", name("AB")),
@@ -212,9 +320,36 @@ fn long_run() -> (Lent, Vec<u8>, Vec<Writes>) {
 
 #[test]
 fn a_run_that_was_cut_ends_as_one_that_was_not() {
-    let (lent, data, segments) = long_run();
-    let uncut = cut_in(lent, &data, &segments, Outcome::More);
+    let (mut lent, data, segments) = long_run();
+    let mut state = lent.open();
+    let (mut uncut, mut end) = (lent.clone(), state);
+    assert_eq!(uncut.call_on(&data, &mut end), (Outcome::More, data.len()));
     assert_eq!(uncut.letters()[..2], ["NNMA0BQ?", "CDEDExy"]);
+    let mut seed = 1u32;
+    let mut random = move || {
+        seed = seed.wrapping_mul(1_664_525).wrapping_add(1_013_904_223);
+        (seed >> 24) as u8
+    };
+    for (k, expected) in segments.iter().enumerate() {
+        let rest = &data[state.total as usize..];
+        let written = lent.writes(rest, &state);
+        assert_eq!(written, *expected, "segment {k}");
+        for other in 0..4 {
+            let mut cut = lent.clone();
+            written.scramble(&mut cut.areas().1, |old| if other == 0 { !old } else { random() });
+            let mut from = state;
+            assert_eq!(cut.call_on(rest, &mut from).0, Outcome::More);
+            assert!(cut == uncut && from == end, "segment {k}");
+        }
+        // What is not said to be written stays, whatever it is.
+        let mut before = lent.clone();
+        lent.call(rest, &mut state);
+        let mut after = lent.clone();
+        written.scramble(&mut before.areas().1, |_| 0);
+        written.scramble(&mut after.areas().1, |_| 0);
+        assert!(before == after, "segment {k}");
+    }
+    assert!(lent == uncut && state == end);
 }
 
 #[test]

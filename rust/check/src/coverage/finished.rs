@@ -1,9 +1,8 @@
-//! Lines that find their work done, lines that are near to it, and what comes behind them: document 02, R-8, which only version 3 has. A call is gone
-//! through once more, line by line, for counting alone. Calls with stops between them count as one way.
+//! Lines that find their work done, lines that are near to it, and what comes behind them: document 02, R-8. A call is gone through once more, line
+//! by line, for counting alone. Calls with stops between them count as one way.
 
-use super::{add, hash_of, meet, patch};
+use super::{add, blocks, hash_of, meet, patch, ranges};
 use crate::hex;
-use crate::told::{self, blocks, moved, part_name, ranges};
 use reference::{digest, plain, Answer, Areas, Outcome, State, BLOCK};
 
 /// What a line that was skipped is or has.
@@ -120,7 +119,7 @@ impl Kept {
         let is_word = |line: &[u8], words: &[&[u8]]| words.iter().any(|word| line.starts_with(word));
         let mut lines = list.get(state.at..)?.split(|c| *c == b'\n');
         let stops = lines.find(|line| !is_word(line, &[b"zero ", b"erase ", b"new ", b"free "]))?;
-        let some = told::version(list) == 3 && state.refusal.number == 0 && state.ready == 0 && state.stretches == 0 && is_word(stops, &[b"move ", b"bsdiff "]);
+        let some = state.refusal.number == 0 && state.ready == 0 && state.stretches == 0 && is_word(stops, &[b"move ", b"bsdiff "]);
         let [image, stash, work, result] = [&areas.image, &areas.stash, &areas.work, &areas.result];
         some.then(|| Kept { image: image.to_vec(), stash: stash.to_vec(), work: work.to_vec(), result: result.to_vec() })
     }
@@ -140,12 +139,23 @@ struct Line<'a> {
 
 impl Line<'_> {
     fn of(text: &[u8]) -> Option<Line<'_>> {
-        let line = moved(3, text)?;
-        let patched = line.patch.and(patch::Line::of(3, text));
-        let target = ranges(line.target)?;
+        let mut fields = text.split(|c| matches!(c, b' ' | b'\n'));
+        let patched = match fields.next()? {
+            b"move" => None,
+            b"bsdiff" => {
+                // O and B are the patch's.
+                fields.nth(1);
+                Some(patch::Line::of(text)?)
+            }
+            _ => return None,
+        };
+        let hash = fields.next()?;
+        let made = if patched.is_some() { fields.next()? } else { hash };
+        let target = ranges(fields.next()?)?;
+        let n = std::str::from_utf8(fields.next()?).ok()?.parse().ok()?;
         // Few enough to be laid out: a good line has no more than a work or a result area.
         let order = (blocks(&target) <= 1 << 16).then(|| blocks_of(&target))?;
-        Some(Line { text, patched, hash: line.hash, made: line.made, target, order, n: line.n as usize, source: line.source })
+        Some(Line { text, patched, hash, made, target, order, n, source: fields.filter(|field| !field.is_empty()).collect() })
     }
 
     fn form(&self) -> usize {
@@ -167,7 +177,7 @@ impl Line<'_> {
     }
 }
 
-/// A line of a list of version 3 that opened, over this image, is one with nothing left to do.
+/// A line of a list that opened, over this image, is one with nothing left to do.
 pub fn is_finished(line: &[u8], image: &[u8]) -> bool {
     Line::of(line).is_some_and(|line| line.is_finished(image))
 }
@@ -242,7 +252,7 @@ impl Walk<'_> {
             }
         }
         for part in line.source.iter().filter(|field| field.contains(&b':')) {
-            let k = (0..self.state.count).find(|k| part_name(part) == Some(&hash_of(&self.state, *k))).unwrap_or(0);
+            let k = (0..self.state.count).find(|k| part.starts_with(&hash_of(&self.state, *k))).unwrap_or(0);
             let start: usize = self.state.sizes[..k].iter().sum();
             fill(&blocks_of(&ranges(part).unwrap_or_default()), &self.kept.stash[start * BLOCK..]);
         }

@@ -2,13 +2,12 @@
 
 use super::{add, counted};
 use crate::generate::line_starts;
-use crate::told;
 use reference::{plain, Answer, Outcome, Refusal, Rooms, State};
 
 const MOST: u64 = 4_294_967_295;
 
 /// Of one refusal with 3 or 6 there may be several.
-pub const FORMS: [&str; 84] = [
+pub const FORMS: [&str; 76] = [
     "an empty line",
     "a first byte of no word",
     "a word like imgdiff",
@@ -29,14 +28,6 @@ pub const FORMS: [&str; 84] = [
     "a hash of 41 digits",
     "upper case in a hash",
     "another byte in a hash",
-    "a stash's number without digits",
-    "a stash's number with a leading zero",
-    "a stash's number too large",
-    "a stash's number with another byte",
-    "a hash for a stash's number, at a letter",
-    "a hash for a stash's number, behind a 0",
-    "a hash for a stash's number, past the greatest",
-    "a line of another version",
     "no count",
     "a count of 0",
     "a count with a leading zero",
@@ -95,40 +86,6 @@ pub const FORMS: [&str; 84] = [
     "a header line without its LF",
 ];
 
-/// What of these no line of a version can have. In version 1 a first byte that is a stash's or a free's is of no word.
-const NOT_IN: [&[&str]; 3] = [
-    &[
-        "a dash without P",
-        "S and L without P",
-        "a P without its colon",
-        "a hash of 39 digits",
-        "a hash of fewer digits",
-        "a hash of 41 digits",
-        "upper case in a hash",
-        "another byte in a hash",
-        "a stash's number without digits",
-        "a stash's number with a leading zero",
-        "a stash's number too large",
-        "a stash's number with another byte",
-        "a hash for a stash's number, at a letter",
-        "a hash for a stash's number, behind a 0",
-        "a hash for a stash's number, past the greatest",
-        "an empty range in the first L",
-        "an empty range in the L of a P",
-        "a fault in the L of a P",
-    ],
-    &["a hash of 39 digits", "a hash of fewer digits", "a hash of 41 digits", "upper case in a hash", "another byte in a hash"],
-    &[
-        "a stash's number without digits",
-        "a stash's number with a leading zero",
-        "a stash's number too large",
-        "a stash's number with another byte",
-        "a hash for a stash's number, at a letter",
-        "a hash for a stash's number, behind a 0",
-        "a hash for a stash's number, past the greatest",
-    ],
-];
-
 /// How often each of FORMS occurred.
 #[derive(Clone)]
 pub struct Forms([u64; FORMS.len()]);
@@ -151,14 +108,13 @@ impl Forms {
         counted(&FORMS, &self.0)
     }
 
-    /// All that a version can have.
-    pub(super) fn each(&self, version: u64) -> impl Iterator<Item = (&'static str, u64)> + '_ {
-        FORMS.into_iter().zip(self.0).filter(move |(name, _)| !NOT_IN[version as usize - 1].contains(name))
+    pub(super) fn each(&self) -> impl Iterator<Item = (&'static str, u64)> + '_ {
+        FORMS.into_iter().zip(self.0)
     }
 
     /// Those of empty ranges.
     pub(super) fn empty_ranges(&self) -> impl Iterator<Item = (&'static str, u64)> + '_ {
-        self.each(3).filter(|(name, _)| name.starts_with("an empty range "))
+        self.each().filter(|(name, _)| name.starts_with("an empty range "))
     }
 }
 
@@ -173,11 +129,11 @@ pub const BYTES: [&str; 6] = [
 ];
 
 /// What a call had of these.
-pub(super) fn called(list: &[u8], before: &State, answer: &Answer) -> [bool; BYTES.len()] {
+pub(super) fn called(before: &State, answer: &Answer) -> [bool; BYTES.len()] {
     let Outcome::Refused(Refusal { number, line, byte }) = answer.outcome else { return [false; BYTES.len()] };
     let (repeats, of_form) = (before.refusal.number != 0, number == 6 || number == 3);
-    let (six, held, first) = (number == 6 && !repeats, repeats && byte != 0, told::header_lines(list) + 1);
-    [six && line == first, six && line > first, six && answer.taken > 0, held && number == 6, held && number == 3, held && !of_form]
+    let (six, held) = (number == 6 && !repeats, repeats && byte != 0);
+    [six && line == 5, six && line > 5, six && answer.taken > 0, held && number == 6, held && number == 3, held && !of_form]
 }
 
 const WORDS: [&[u8]; 7] = [b"zero", b"erase", b"new", b"stash", b"free", b"move", b"bsdiff"];
@@ -186,8 +142,6 @@ const WORDS: [&[u8]; 7] = [b"zero", b"erase", b"new", b"stash", b"free", b"move"
 #[derive(Clone, Copy)]
 enum Field {
     Hash,
-    /// The number of a stash.
-    Name,
     Number,
     Target,
     /// The S of a `stash`.
@@ -201,7 +155,6 @@ enum Field {
 
 /// The fault: the bytes of the line before it, its own byte unless the text ends there, and those behind it.
 struct Fault<'a> {
-    version: u64,
     before: &'a [u8],
     here: Option<u8>,
     after: &'a [u8],
@@ -212,17 +165,10 @@ struct Fault<'a> {
 fn forms(list: &[u8], refusal: &Refusal) -> [bool; FORMS.len()] {
     let start = line_starts(list).get(refusal.line - 1).copied().unwrap_or(list.len());
     let (before, rest) = list[start..].split_at(refusal.byte.clamp(start, list.len()) - start);
-    let version = told::version(list);
-    let mut fault = Fault { version, before, here: rest.first().copied(), after: rest.get(1..).unwrap_or(b""), found: Vec::new() };
+    let mut fault = Fault { before, here: rest.first().copied(), after: rest.get(1..).unwrap_or(b""), found: Vec::new() };
     match refusal.number {
         3 => fault.header(),
-        _ => {
-            fault.command();
-            let line = list[start..].split_inclusive(|c| *c == b'\n').next().unwrap_or(b"");
-            if [1, 2, 3].into_iter().any(|other| other != version && is_good(other, line)) {
-                fault.is("a line of another version");
-            }
-        }
+        _ => fault.command(),
     }
     fault.byte();
     FORMS.map(|name| fault.found.contains(&name))
@@ -285,8 +231,7 @@ impl Fault<'_> {
     fn command(&mut self) {
         let fields: Vec<&[u8]> = self.before.split(|c| *c == b' ').collect();
         let [_, .., last] = fields[..] else { return self.word() };
-        let version = self.version;
-        let good = is_good(version, &[self.before, b"\n"].concat());
+        let good = is_good(&[self.before, b"\n"].concat());
         match self.here {
             None if good => self.is("a good line without its LF"),
             Some(b' ') if last.is_empty() => self.is("two spaces"),
@@ -295,24 +240,21 @@ impl Fault<'_> {
             _ if last.is_empty() => self.short("a space at the end where a field may follow"),
             _ => {}
         }
-        let field = field(version, &fields);
+        let field = field(&fields);
         match field {
             Field::Hash => self.hash(last, false),
-            Field::Name => self.name(last, false),
             Field::Number => self.number(last),
             Field::Source if last == b"-" => self.short("a dash without P"),
             Field::Target | Field::Stashed | Field::Source => self.set(last, field),
             Field::Places => {
                 self.set(last, field);
-                let part: &[u8] = if version == 3 { b" 0123456789012345678901234567890123456789:2,0,1\n" } else { b" 0:2,0,1\n" };
-                if is_good(version, &[self.before, part].concat()) {
+                if is_good(&[self.before, b" 0123456789012345678901234567890123456789:2,0,1\n"].concat()) {
                     self.short("S and L without P");
                 }
             }
             Field::Part => match last.iter().position(|c| *c == b':') {
                 Some(colon) => self.set(&last[colon + 1..], field),
-                None if version == 3 => self.hash(last, true),
-                None => self.name(last, true),
+                None => self.hash(last, true),
             },
         }
     }
@@ -339,23 +281,6 @@ impl Fault<'_> {
             (39, None | Some(b' ' | b'\n' | b':')) => self.is("a hash of 39 digits"),
             (_, None | Some(b' ' | b'\n' | b':')) => self.is("a hash of fewer digits"),
             _ => self.is("another byte in a hash"),
-        }
-    }
-
-    fn name(&mut self, digits: &[u8], in_part: bool) {
-        let rest = [self.here.unwrap_or(b'\n')].into_iter().chain(self.after.iter().copied());
-        let whole: Vec<u8> = digits.iter().copied().chain(rest).take(41).collect();
-        let ends = matches!(whole.last(), Some(b' ' | b'\n' | b':'));
-        let is_hash = ends && told::held_under(3, &whole[..whole.len() - 1]).is_some();
-        match (digits, self.here) {
-            (b"0", Some(b'0'..=b'9')) => self.is(if is_hash { "a hash for a stash's number, behind a 0" } else { "a stash's number with a leading zero" }),
-            (_, Some(b'0'..=b'9')) if is_hash => self.is("a hash for a stash's number, past the greatest"),
-            (_, Some(b'0'..=b'9')) => self.large("a stash's number too large", digits.len()),
-            (_, Some(b'a'..=b'f')) if is_hash => self.is("a hash for a stash's number, at a letter"),
-            (b"", _) => self.is("a stash's number without digits"),
-            (_, None | Some(b' ' | b'\n')) if in_part => self.is("a P without its colon"),
-            (_, None | Some(b'\n')) => self.is("a field missing"),
-            _ => self.is("a stash's number with another byte"),
         }
     }
 
@@ -486,33 +411,28 @@ impl Fault<'_> {
     }
 }
 
-/// What the last of these fields must be; the first is one of the version's words.
-fn field(version: u64, fields: &[&[u8]]) -> Field {
+/// What the last of these fields must be; the first is one of the seven words.
+fn field(fields: &[&[u8]]) -> Field {
     let k = fields.len() - 1;
-    let hashes = if version == 3 { 1 } else { 0 };
     match (fields[0], k) {
         (b"zero" | b"erase" | b"new", _) => Field::Target,
-        (b"free", _) | (b"stash", 1) if version == 3 => Field::Hash,
-        (b"free", _) | (b"stash", 1) => Field::Name,
+        (b"free", _) | (b"stash", 1) => Field::Hash,
         (b"stash", _) => Field::Stashed,
         (b"bsdiff", 1 | 2) => Field::Number,
-        // Of a `bsdiff` O, B and T stand before all that it has with a `move` alike; H is the first of that.
-        (b"bsdiff", 3) if version == 3 => Field::Hash,
-        (word, _) => match if word == b"bsdiff" { k - 2 - hashes } else { k } - hashes {
-            0 => Field::Hash,
-            1 if version == 1 => Field::Source,
-            2 if version == 1 => Field::Target,
-            1 => Field::Target,
-            2 => Field::Number,
-            3 => Field::Source,
-            4 if fields[k - 1] != b"-" => Field::Places,
+        (b"bsdiff", 3) => Field::Hash,
+        (word, _) => match if word == b"bsdiff" { k - 3 } else { k } {
+            1 => Field::Hash,
+            2 => Field::Target,
+            3 => Field::Number,
+            4 => Field::Source,
+            5 if fields[k - 1] != b"-" => Field::Places,
             _ => Field::Part,
         },
     }
 }
 
-/// The line is well formed in this version: whatever else refuses it, 6 and 7 do not.
-fn is_good(version: u64, line: &[u8]) -> bool {
-    let list = [[&b"1\n0\n"[..], b"2\n0\n0\n0\n", b"3\n0\n0\n0\n"][version as usize - 1], line].concat();
+/// The line is well formed: whatever else refuses it, 6 and 7 do not.
+fn is_good(line: &[u8]) -> bool {
+    let list = [b"3\n0\n0\n0\n", line].concat();
     !matches!(plain::open(&list, Rooms::default()).refusal.number, 6 | 7)
 }

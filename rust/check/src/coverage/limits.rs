@@ -1,7 +1,6 @@
 //! What only long tables and long rows of marks get right: many stashes, and sources past 4,096 blocks.
 
-use super::name_of;
-use crate::told::{self, blocks, moved, part_name, ranges};
+use super::{blocks, hash_of, ranges};
 use reference::{Answer, Lengths, State, BLOCK, MOST_STASHES};
 
 /// Stashes, and blocks of an area, from which a table or a row of marks that is too short would show.
@@ -26,7 +25,7 @@ pub const LIMITS: [&str; 11] = [
 /// What an opening had of these.
 pub(super) fn opened(list: &[u8], lengths: &Lengths, state: &State) -> [bool; LIMITS.len()] {
     let mut has = [false; LIMITS.len()];
-    let (refusal, version) = (state.refusal, told::version(list));
+    let refusal = state.refusal;
     let lines = || list.split(|c| *c == b'\n');
     if refusal.number == 14 {
         let before = |word: &[u8]| lines().take(refusal.line - 1).filter(|line| line.starts_with(word)).count();
@@ -38,13 +37,13 @@ pub(super) fn opened(list: &[u8], lengths: &Lengths, state: &State) -> [bool; LI
     match refusal.number {
         0 => {
             has[6] = true;
-            for (n, places) in lines().filter_map(|line| placed(version, line)) {
+            for (n, places) in lines().filter_map(placed) {
                 has[7] |= n > LONG;
                 has[8] |= places.iter().any(|place| *place >= LONG);
             }
         }
         12 => {
-            if let Some((n, mut places)) = lines().nth(refusal.line - 1).and_then(|line| placed(version, line)) {
+            if let Some((n, mut places)) = lines().nth(refusal.line - 1).and_then(placed) {
                 has[9] = n > LONG && places.iter().any(|place| *place >= n);
                 places.sort();
                 let twice: Vec<u64> = places.windows(2).filter(|two| two[0] == two[1]).map(|two| two[0]).collect();
@@ -75,22 +74,25 @@ pub(super) fn called(list: &[u8], before: &State, answer: &Answer, twice: bool) 
     has[1] = count == MOST_STASHES;
     has[4] = count == MOST_STASHES && number == 14;
     if before.count > MANY {
-        let version = told::version(list);
-        let names: Vec<Vec<u8>> = (MANY..before.count).map(|k| name_of(version, before, k)).collect();
+        let names: Vec<Vec<u8>> = (MANY..before.count).map(|k| hash_of(before, k)).collect();
         let sourced =
             list[before.at..answer.state.at].split(|c| *c == b'\n').filter(|line| line.starts_with(b"move ") || line.starts_with(b"bsdiff "));
         has[2] = sourced
             .flat_map(|line| line.split(|c| *c == b' '))
-            .any(|field| part_name(field).is_some_and(|part| names.iter().any(|name| name == part)));
+            .any(|field| field.get(40) == Some(&b':') && names.iter().any(|name| field.starts_with(name)));
     }
     has
 }
 
 /// N and the places of a `move` or a `bsdiff` whose source names stashes.
-fn placed(version: u64, line: &[u8]) -> Option<(u64, Vec<u64>)> {
-    let line = moved(version, line)?;
-    let n = line.n;
-    let sets: Vec<Vec<(u64, u64)>> = line.source.get(1..)?.iter().map(|field| ranges(field)).collect::<Option<_>>()?;
+fn placed(line: &[u8]) -> Option<(u64, Vec<u64>)> {
+    let fields: Vec<&[u8]> = line.split(|c| *c == b' ').collect();
+    let (n, source) = match fields[..] {
+        [b"move", _, _, n, ref source @ ..] | [b"bsdiff", _, _, _, _, _, n, ref source @ ..] => (n, source),
+        _ => return None,
+    };
+    let n = std::str::from_utf8(n).ok()?.parse().ok()?;
+    let sets: Vec<Vec<(u64, u64)>> = source.get(1..)?.iter().map(|field| ranges(field)).collect::<Option<_>>()?;
     // Few enough to be laid out: a good line has N of them.
     if sets.iter().map(|set| blocks(set)).sum::<u64>() > 1 << 20 {
         return None;

@@ -1,7 +1,6 @@
 //! Stashes of no blocks: no list makes one, and a state that holds one is impossible, wherever it stands.
 
-use super::name_of;
-use crate::told::{self, part_name};
+use super::hash_of;
 use reference::{Answer, State};
 
 /// Where a call came with one; all but the last are 17.
@@ -20,12 +19,11 @@ pub const NO_BLOCKS: [&str; 9] = [
 /// Of a call whose state has nothing wrong before this.
 pub(super) fn impossible(list: &[u8], before: &State) -> [bool; NO_BLOCKS.len()] {
     let empty: Vec<usize> = (0..before.count).filter(|k| before.sizes[*k] == 0).collect();
-    let version = told::version(list);
-    let names: Vec<Vec<u8>> = empty.iter().map(|k| name_of(version, before, *k)).collect();
+    let names: Vec<Vec<u8>> = empty.iter().map(|k| hash_of(before, *k)).collect();
     let line = list[before.at..].split(|c| *c == b'\n').next().unwrap_or(b"");
     let fields: Vec<&[u8]> = line.split(|c| *c == b' ').collect();
-    let is_named = |field: &[u8]| names.iter().any(|name| name == field);
-    let sourced = fields.iter().any(|field| part_name(field).is_some_and(is_named));
+    let is_named = |field: &[u8]| names.iter().any(|name| field.starts_with(name));
+    let sourced = fields.iter().any(|field| field.get(40) == Some(&b':') && is_named(field));
     let starts = |words: &[&[u8]]| words.contains(&fields[0]);
     let freed = starts(&[b"free"]) && fields.get(1).is_some_and(|name| is_named(name));
     let moved = starts(&[b"move", b"bsdiff"]);

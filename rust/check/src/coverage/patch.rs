@@ -1,6 +1,6 @@
 //! What a patch has, and what is malformed in it: read once more, for counting alone.
 
-use crate::told::{blocks, moved, ranges};
+use super::{blocks, ranges};
 use reference::BLOCK;
 
 /// What is malformed first.
@@ -58,12 +58,12 @@ struct Record {
 }
 
 impl Line<'_> {
-    /// The line of this version, if it is a `bsdiff`; it was read before.
-    pub(super) fn of(version: u64, line: &[u8]) -> Option<Line<'_>> {
-        let line = moved(version, line)?;
-        let (from, bytes) = line.patch?;
-        let target = blocks(&ranges(line.target)?) as usize * BLOCK;
-        Some(Line { from: from as usize, bytes: bytes as usize, hash: line.hash, target, n: line.n as usize })
+    /// The line, if it is a `bsdiff`; it was read before.
+    pub(super) fn of(line: &[u8]) -> Option<Line<'_>> {
+        let fields: Vec<&[u8]> = line.split(|c| matches!(c, b' ' | b'\n')).collect();
+        let [b"bsdiff", from, bytes, hash, _, target, n, ..] = fields[..] else { return None };
+        let number = |digits: &[u8]| std::str::from_utf8(digits).ok()?.parse().ok();
+        Some(Line { from: number(from)?, bytes: number(bytes)?, hash, target: blocks(&ranges(target)?) as usize * BLOCK, n: number(n)? })
     }
 
     fn patch<'p>(&self, data: &'p [u8]) -> &'p [u8] {

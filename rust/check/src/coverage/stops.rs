@@ -1,7 +1,6 @@
 //! Stops, and the states that only they bring: document 02, R-9. What saved forms had, too.
 
-use super::{add, name_of};
-use crate::told;
+use super::{add, hash_of};
 use reference::{plain, saved, Answer, Areas, Lengths, Outcome, State};
 
 /// What a call had that ended with a stop.
@@ -111,9 +110,9 @@ fn word(line: &[u8]) -> &[u8] {
 }
 
 /// Gap and younger blocks of the stash that a `free` names, if the state holds it.
-fn gap(version: u64, line: &[u8], state: &State) -> Option<(usize, usize)> {
+fn gap(line: &[u8], state: &State) -> Option<(usize, usize)> {
     let name = line.strip_prefix(b"free ")?;
-    let j = (0..state.count).find(|k| name_of(version, state, *k) == name)?;
+    let j = (0..state.count).find(|k| hash_of(state, *k) == name)?;
     Some((state.sizes[j], state.sizes[j + 1..state.count].iter().sum()))
 }
 
@@ -128,7 +127,7 @@ impl Stops {
             add(&mut self.marks, &[before.ready == 1, before.ready != 1]);
         }
         if before.stretches != 0 {
-            let left = gap(told::version(list), line_at(list, before.at), before).map_or(0, |(gap, younger)| younger.div_ceil(gap) - before.stretches);
+            let left = gap(line_at(list, before.at), before).map_or(0, |(gap, younger)| younger.div_ceil(gap) - before.stretches);
             self.stretches[if left == 1 { 5 } else { 6 }] += 1;
         }
         if stop {
@@ -168,7 +167,7 @@ impl Stops {
                 self.not_ready[at] += 1;
             }
             Mark::Stretches => {
-                let at = match gap(told::version(list), line, before) {
+                let at = match gap(line, before) {
                     _ if !line.starts_with(b"free ") || clean() == 6 => 0,
                     None => 1,
                     Some((_, 0)) => 2,
@@ -198,7 +197,7 @@ impl Stops {
         self.saved[10] += 1;
     }
 
-    /// The kinds by groups, each with its name, and how often they occurred; the last two do not rest on the version.
+    /// The kinds by groups, each with its name, and how often they occurred.
     pub(super) fn groups(&self) -> [(&str, &[&str], &[u64]); 7] {
         [
             ("stops", &STOPS, &self.stops),
@@ -230,7 +229,7 @@ fn stopped(list: &[u8], piece: &[u8], before: &State, answer: &Answer) -> [bool;
         (_, true) => kinds[8] = true,
         // Where lines before it freed others, what was held then is not known here.
         (_, false) if start == before.at => {
-            if let Some((gap, younger)) = gap(told::version(list), line, before) {
+            if let Some((gap, younger)) = gap(line, before) {
                 kinds[9] = younger % gap == 0;
                 kinds[10] = younger % gap != 0;
                 kinds[11] = younger <= gap;

@@ -1,7 +1,7 @@
 //! Commands and their text.
 
 use super::sets::{size, Set};
-use crate::{hex, told};
+use crate::hex;
 use reference::Hash;
 
 /// The source of a `move` or a `bsdiff`, in its three forms: S; stashes with their places; S with its places and stashes with theirs.
@@ -12,7 +12,7 @@ pub enum Source {
     Both(Set, Set, Vec<(Hash, Set)>),
 }
 
-/// A command line of any version, or any bytes in its place. Stashes are named by what they are held under; H and T are told in version 3 alone.
+/// A command line, or any bytes in its place.
 #[derive(Clone)]
 pub enum Command {
     Zero(Set),
@@ -32,40 +32,37 @@ fn set_text(out: &mut Vec<u8>, set: &Set) {
     }
 }
 
-fn parts_text(out: &mut Vec<u8>, version: u64, parts: &[(Hash, Set)]) {
+fn parts_text(out: &mut Vec<u8>, parts: &[(Hash, Set)]) {
     for (hash, set) in parts {
-        out.extend_from_slice(format!(" {}:", told::name(version, hash)).as_bytes());
+        out.push(b' ');
+        out.extend_from_slice(hex(hash).as_bytes());
+        out.push(b':');
         set_text(out, set);
     }
 }
 
-/// What a `move` and a `bsdiff` have in common: R, N and the source. In version 1 S and R, where there is only S.
-fn move_text(out: &mut Vec<u8>, version: u64, target: &Set, n: u32, source: &Source) {
-    if let (1, Source::Image(set)) = (version, source) {
-        set_text(out, set);
-        out.push(b' ');
-        return set_text(out, target);
-    }
+/// What a `move` and a `bsdiff` have in common: R, N and the source.
+fn move_text(out: &mut Vec<u8>, target: &Set, n: u32, source: &Source) {
     set_text(out, target);
     out.extend_from_slice(format!(" {n} ").as_bytes());
     match source {
         Source::Image(set) => set_text(out, set),
         Source::Stashes(parts) => {
             out.push(b'-');
-            parts_text(out, version, parts);
+            parts_text(out, parts);
         }
         Source::Both(set, places, parts) => {
             set_text(out, set);
             out.push(b' ');
             set_text(out, places);
-            parts_text(out, version, parts);
+            parts_text(out, parts);
         }
     }
 }
 
 impl Command {
-    /// Writes the line as this version has it, with its LF.
-    pub fn text(&self, version: u64, out: &mut Vec<u8>) {
+    /// Writes the line, with its LF.
+    pub fn text(&self, out: &mut Vec<u8>) {
         match self {
             Command::Zero(set) => {
                 out.extend_from_slice(b"zero ");
@@ -80,24 +77,18 @@ impl Command {
                 set_text(out, set);
             }
             Command::Move { hash, target, n, source } => {
-                out.extend_from_slice(b"move ");
-                if version == 3 {
-                    out.extend_from_slice(format!("{} ", hex(hash)).as_bytes());
-                }
-                move_text(out, version, target, *n, source);
+                out.extend_from_slice(format!("move {} ", hex(hash)).as_bytes());
+                move_text(out, target, *n, source);
             }
             Command::Bsdiff { from, bytes, hash, result, target, n, source } => {
-                out.extend_from_slice(format!("bsdiff {from} {bytes} ").as_bytes());
-                if version == 3 {
-                    out.extend_from_slice(format!("{} {} ", hex(hash), hex(result)).as_bytes());
-                }
-                move_text(out, version, target, *n, source);
+                out.extend_from_slice(format!("bsdiff {from} {bytes} {} {} ", hex(hash), hex(result)).as_bytes());
+                move_text(out, target, *n, source);
             }
             Command::Stash { hash, source } => {
-                out.extend_from_slice(format!("stash {} ", told::name(version, hash)).as_bytes());
+                out.extend_from_slice(format!("stash {} ", hex(hash)).as_bytes());
                 set_text(out, source);
             }
-            Command::Free { hash } => out.extend_from_slice(format!("free {}", told::name(version, hash)).as_bytes()),
+            Command::Free { hash } => out.extend_from_slice(format!("free {}", hex(hash)).as_bytes()),
             Command::Raw(bytes) => out.extend_from_slice(bytes),
         }
         out.push(b'\n');

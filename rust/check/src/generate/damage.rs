@@ -3,7 +3,6 @@
 use super::ill::{ill_header, ill_line};
 use super::lines::{line_around, line_starts};
 use super::Rng;
-use crate::told;
 use reference::{MOST_AREA, MOST_STASHES};
 
 const LIKELY: &[u8] = b"0123456789abcdef ,:-\n\n01279 ,ABFGgz+.\t\r\0\xff/;`";
@@ -107,7 +106,7 @@ fn ill_set(rng: &mut Rng, list: &mut Vec<u8>) {
     list.splice(start..end, rng.pick(&ILL_SETS).bytes());
 }
 
-const LAST_LINES: [&[u8]; 16] = [
+const LAST_LINES: [&[u8]; 11] = [
     b"bsdiff",
     b"imgdiff",
     b"bsdiff ",
@@ -118,11 +117,6 @@ const LAST_LINES: [&[u8]; 16] = [
     b"zero 2,0,1",
     b"free da39a3ee5e6b4b0d3255bfef95601890afd80709",
     b"new 2,0",
-    b"move 2,0,1 2,0,1",
-    b"bsdiff 0 0 2,0,1 2,0,1",
-    b"move 2,0,1 1 - 0:2,0,1",
-    b"stash 0 2,0,1",
-    b"free 4294967295",
     b"\n",
 ];
 
@@ -162,18 +156,17 @@ fn header_byte(rng: &mut Rng, list: &mut Vec<u8>) {
     }
 }
 
-/// An ill-formed line in the place of one behind the header, or between two, mostly near a good one of the text's version; mostly the text ends with
-/// it where it has no LF. Now and then it is the header that is ill formed.
+/// An ill-formed line in the place of one behind the header, or between two; mostly the text ends with it where it has no LF. Now and then it is
+/// the header that is ill formed.
 pub fn other_line(rng: &mut Rng, list: &mut Vec<u8>) {
     if rng.one_in(8) {
         return header_in_place(rng, list);
     }
     let starts = line_starts(list);
     let last = starts.len() - 1;
-    let start = starts[rng.between(told::header_lines(list).min(last), last)];
+    let start = starts[rng.between(4.min(last), last)];
     let end = if rng.percent(50) { line_around(list, start).1 } else { start };
-    let version = if rng.one_in(12) { rng.pick(&[1, 2, 3]) } else { told::version(list) };
-    let line = ill_line(rng, version);
+    let line = ill_line(rng);
     let cut = !line.ends_with(b"\n") && rng.percent(80);
     let after = start + line.len();
     list.splice(start..end, line);
@@ -184,9 +177,8 @@ pub fn other_line(rng: &mut Rng, list: &mut Vec<u8>) {
 
 /// An ill-formed header, or what there is of it.
 fn header_in_place(rng: &mut Rng, list: &mut Vec<u8>) {
-    let version = told::version(list);
-    let after = line_starts(list).get(told::header_lines(list)).copied().unwrap_or(list.len());
-    list.splice(0..after, ill_header(rng, version));
+    let after = line_starts(list).get(4).copied().unwrap_or(list.len());
+    list.splice(0..after, ill_header(rng));
 }
 
 /// The line around this byte, somewhere once more or taken out.
@@ -204,11 +196,11 @@ fn again_or_gone(rng: &mut Rng, list: &mut Vec<u8>, at: usize) {
 /// Puts another number, or none that is one, in a line of the header.
 pub fn other_header(rng: &mut Rng, list: &mut Vec<u8>, stash: usize) {
     let starts = line_starts(list);
-    let line = rng.below(told::header_lines(list));
+    let line = rng.below(4);
     let (Some(start), Some(next)) = (starts.get(line), starts.get(line + 1)) else { return };
     let text = match line {
         _ if rng.one_in(4) => rng.pick(&["", "03", "+3", "4294967296", "3 ", "3\r", "x"]).to_string(),
-        0 => rng.pick(&["0", "1", "2", "3", "4", "10", "33", "4294967295"]).to_string(),
+        0 => rng.pick(&["0", "1", "2", "4", "33", "4294967295"]).to_string(),
         1 => rng.pick(&["0", "1", "7", "4294967295"]).to_string(),
         2 => rng.pick(&[0, 1, 64, 65, MOST_STASHES - 1, MOST_STASHES, MOST_STASHES + 1, MOST_STASHES + 2, 4_294_967_295]).to_string(),
         _ => rng.pick(&[0, 1, stash.saturating_sub(1), stash, stash + 1, stash + 1, 4_097, MOST_AREA + 1]).to_string(),

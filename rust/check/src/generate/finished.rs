@@ -21,7 +21,7 @@ pub(super) struct Ran {
 impl Follow {
     /// A `move` of this source, which runs.
     pub(super) fn move_of(&mut self, blocks: &mut Blocks, (whole, source): (&[u8], Source), target: Set) -> Command {
-        let hash = self.digest(blocks, whole);
+        let hash = blocks.digest(whole);
         self.runs(Command::Move { hash, target, n: whole.len() as u32, source }, whole, whole)
     }
 
@@ -69,11 +69,8 @@ impl Follow {
 }
 
 impl World {
-    /// A line that has nothing left to do: its target has its hash, whatever its source and its patch are. Without hashes it is done all the same.
-    pub(super) fn good_finished(&mut self, rng: &mut Rng, blocks: &mut Blocks, follow: &mut Follow) -> Option<Command> {
-        if !follow.hashed() {
-            return self.done_again(rng, blocks, follow);
-        }
+    /// A line that has nothing left to do: its target has its hash, whatever its source and its patch are.
+    pub(super) fn good_finished(&mut self, rng: &mut Rng, blocks: &mut Blocks, follow: &Follow) -> Option<Command> {
         match rng.below(9) {
             0..=2 => {
                 let again = follow.some_ran(rng, |command| follow.gather(command).is_some())?;
@@ -88,38 +85,6 @@ impl World {
             }
             4 | 5 => self.finished_move(rng, blocks, follow),
             _ => self.finished_bsdiff(rng, blocks, follow),
-        }
-    }
-
-    /// A line that writes what its target has, or that stood before and now takes what it finds.
-    fn done_again(&mut self, rng: &mut Rng, blocks: &mut Blocks, follow: &mut Follow) -> Option<Command> {
-        match rng.below(9) {
-            // As it left its target, mostly over the same source.
-            0..=2 => {
-                let ran = follow.some_ran(rng, |_| true)?.clone();
-                follow.once_more(ran)
-            }
-            // Over any source: only of a `move` is it known what it then writes.
-            3 | 4 => {
-                let count = follow.ran.len();
-                let ran = follow.ran.get(rng.below(count)).filter(|ran| matches!(ran.command, Command::Move { .. }))?.clone();
-                let whole = follow.gather(&ran.command)?;
-                Some(follow.runs(ran.command, &whole, &whole))
-            }
-            5 => {
-                let n = follow.some(rng, self.work)?;
-                let target = any_target(rng, n, follow.image.len());
-                let whole = follow.read(&target);
-                Some(follow.move_of(blocks, (&whole, Source::Image(target.clone())), target))
-            }
-            _ if !follow.is_enough(&self.patch) => {
-                let (whole, source) = self.good_source(rng, follow)?;
-                let k = follow.some(rng, self.result)?;
-                let target = any_target(rng, k, follow.image.len());
-                let there = follow.read(&target);
-                Some(self.bsdiff_of(rng, blocks, (&whole, source), (&there, target), follow))
-            }
-            _ => None,
         }
     }
 

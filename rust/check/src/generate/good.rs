@@ -4,9 +4,7 @@ use super::command::{Command, Source};
 use super::finished::Ran;
 use super::patch::differ;
 use super::sets::{any_set, blocks_of, place_set, Set};
-use super::world::any_number;
 use super::{Blocks, Rng, Sizes, World};
-use crate::told;
 use reference::{Hash, MOST_RESULT, MOST_STASHES};
 
 /// What a good list does, followed block by block while it is made.
@@ -20,28 +18,6 @@ pub(super) struct Follow {
 impl Follow {
     fn blocks(&self) -> usize {
         self.held.iter().map(|stash| stash.1.len()).sum()
-    }
-
-    /// Whether the list's version has hashes to compare.
-    pub(super) fn hashed(&self) -> bool {
-        self.sizes.version == 3
-    }
-
-    /// The hash of these blocks, where the version has a use for it.
-    pub(super) fn digest(&self, blocks: &mut Blocks, ids: &[u8]) -> Hash {
-        if self.hashed() {
-            blocks.digest(ids)
-        } else {
-            [0; 20]
-        }
-    }
-
-    /// What these blocks are stashed under: their hash, or in version 2 a number that is not held.
-    fn name(&self, rng: &mut Rng, blocks: &mut Blocks, ids: &[u8]) -> Hash {
-        match self.sizes.version {
-            2 => told::numbered(any_number(rng, |n| self.held.iter().all(|stash| stash.0 != told::numbered(n)))),
-            _ => blocks.digest(ids),
-        }
     }
 
     pub(super) fn write(&mut self, set: &Set, from: &[u8]) {
@@ -106,8 +82,7 @@ impl World {
             stash: sizes.area,
             work: sizes.area,
             result: most_result,
-            version: sizes.version,
-            header: [sizes.version, 0, 0, 0],
+            header: [3, 0, 0, 0],
             commands: Vec::new(),
             data: Vec::new(),
             patch: Vec::new(),
@@ -125,7 +100,7 @@ impl World {
         let mut follow = Follow { image, held: Vec::new(), ran: Vec::new(), sizes: *sizes };
         for block in 0..sizes.stashes {
             let ids = vec![follow.image[block]];
-            let hash = follow.name(rng, blocks, &ids);
+            let hash = blocks.digest(&ids);
             follow.held.push((hash, ids));
             world.commands.push(Command::Stash { hash, source: vec![(block as u32, block as u32 + 1)] });
         }
@@ -143,7 +118,7 @@ impl World {
                 3 | 4 => good_free(rng, &mut follow),
                 5..=8 => world.good_move(rng, blocks, &mut follow),
                 9 | 10 => world.good_bsdiff(rng, blocks, letters, &mut follow),
-                11..=13 => world.good_finished(rng, blocks, &mut follow),
+                11..=13 => world.good_finished(rng, blocks, &follow),
                 14 => world.good_near(rng, blocks, &mut follow),
                 kind if kind >= 15 + stash_weight => good_free(rng, &mut follow),
                 _ => world.good_stash(rng, blocks, &mut follow),
@@ -151,7 +126,7 @@ impl World {
             world.commands.extend(command);
             if sizes.bytes < usize::MAX {
                 let mut text = Vec::new();
-                world.commands[before..].iter().for_each(|command| command.text(sizes.version, &mut text));
+                world.commands[before..].iter().for_each(|command| command.text(&mut text));
                 bytes += text.len();
             }
             most = (most.0.max(follow.held.len()), most.1.max(follow.blocks()));
@@ -159,7 +134,7 @@ impl World {
                 break;
             }
         }
-        world.header = [sizes.version, world.total(), most.0 as u64, most.1 as u64];
+        world.header = [3, world.total(), most.0 as u64, most.1 as u64];
         if rng.percent(30) {
             world.header[2] = rng.pick(&[most.0 as u64 + 1, 64, MOST_STASHES as u64]).clamp(most.0 as u64, MOST_STASHES as u64);
             world.header[3] = world.stash as u64;
@@ -177,13 +152,10 @@ impl World {
     }
 
     fn good_stash(&self, rng: &mut Rng, blocks: &mut Blocks, follow: &mut Follow) -> Option<Command> {
-        if self.version == 1 {
-            return None;
-        }
         let k = follow.some(rng, self.work.min(self.stash - follow.blocks()))?;
         let source = any_set(rng, k, follow.image.len());
         let ids = follow.read(&source);
-        let hash = follow.name(rng, blocks, &ids);
+        let hash = blocks.digest(&ids);
         if follow.held.len() == MOST_STASHES || follow.held.iter().any(|stash| stash.0 == hash) {
             return None;
         }
@@ -219,7 +191,7 @@ impl World {
         follow: &mut Follow,
     ) -> Command {
         let (from, bytes) = self.put_patch(rng, blocks, whole, ids);
-        let (hash, result) = (follow.digest(blocks, whole), follow.digest(blocks, ids));
+        let (hash, result) = (blocks.digest(whole), blocks.digest(ids));
         follow.runs(Command::Bsdiff { from, bytes, hash, result, target, n: whole.len() as u32, source }, whole, ids)
     }
 

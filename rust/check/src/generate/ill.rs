@@ -11,8 +11,6 @@ enum Kind {
     Space,
     Hash,
     Number,
-    /// The number of a stash.
-    Name,
     Count,
     Start,
     End,
@@ -37,8 +35,7 @@ const ODD: &[u8] = b"\r\r\t\t\0\0\xff\x80\xc3  ,,::--+.;/`@GgAFXxz_\n\"01259";
 const TAILS: [&[u8]; 13] = [b" ", b" ", b"\r", b"\t", b",", b" 0", b"  ", b":2,0,1", b" -", b"\0", b",1,2", b"0", b" 2,0,1"];
 
 /// In a header line's place.
-const ILL_HEADERS: [&[u8]; 18] =
-    [b"03", b"00", b"01", b"02", b"1 ", b"2\r", b"3 ", b"3\r", b" 3", b"\t3", b"+3", b"-3", b"x", b"3x", b"\0", b"\xff", b"3,", b"0x3"];
+const ILL_HEADERS: [&[u8]; 14] = [b"03", b"00", b"3 ", b"3\r", b" 3", b"\t3", b"+3", b"-3", b"x", b"3x", b"\0", b"\xff", b"3,", b"0x3"];
 
 /// Any number, as many with few digits as with many; often at a border.
 fn any_number(rng: &mut Rng) -> u64 {
@@ -83,21 +80,9 @@ impl Parts {
         }
     }
 
-    /// What names a stash.
-    fn name(&mut self, rng: &mut Rng, version: u64) {
-        match version {
-            3 => self.hash(rng),
-            _ => self.push(Kind::Name, any_number(rng).to_string()),
-        }
-    }
-
-    /// R, N and a source in one of its three forms; in version 1 two sets.
-    fn moved(&mut self, rng: &mut Rng, version: u64) {
+    /// R, N and a source in one of its three forms.
+    fn moved(&mut self, rng: &mut Rng) {
         self.set(rng);
-        if version == 1 {
-            self.space();
-            return self.set(rng);
-        }
         self.space();
         self.number(rng);
         self.space();
@@ -113,26 +98,23 @@ impl Parts {
         }
         for _ in 0..if form == 1 { 0 } else { rng.pick(&[1, 1, 2, 3]) } {
             self.space();
-            self.name(rng, version);
+            self.hash(rng);
             self.push(Kind::Colon, ":");
             self.set(rng);
         }
     }
 
-    /// A line that is well formed in this version.
-    fn good(rng: &mut Rng, version: u64) -> Parts {
+    /// A line that is well formed.
+    fn good(rng: &mut Rng) -> Parts {
         let mut line = Parts(Vec::new());
-        let mut word = rng.pick(&["zero", "zero", "erase", "new", "stash", "free", "move", "move", "bsdiff"]);
-        if let (1, "stash" | "free") = (version, word) {
-            word = "bsdiff";
-        }
+        let word = rng.pick(&["zero", "zero", "erase", "new", "stash", "free", "move", "move", "bsdiff"]);
         line.push(Kind::Word, word);
         line.space();
         match word {
             "zero" | "erase" | "new" => line.set(rng),
-            "free" => line.name(rng, version),
+            "free" => line.hash(rng),
             "stash" => {
-                line.name(rng, version);
+                line.hash(rng);
                 line.space();
                 line.set(rng);
             }
@@ -142,13 +124,12 @@ impl Parts {
                         line.number(rng);
                         line.space();
                     }
-                }
-                let hashes = if word == "bsdiff" { 2 } else { 1 };
-                for _ in 0..if version == 3 { hashes } else { 0 } {
                     line.hash(rng);
                     line.space();
                 }
-                line.moved(rng, version);
+                line.hash(rng);
+                line.space();
+                line.moved(rng);
             }
         }
         line
@@ -169,15 +150,9 @@ impl Parts {
     }
 }
 
-/// A line that is ill formed, mostly, and mostly with its LF: one of this version spoiled, now and then a good one of another.
-pub fn ill_line(rng: &mut Rng, version: u64) -> Vec<u8> {
-    if rng.one_in(20) {
-        let other = rng.pick(&[[2, 3], [1, 3], [1, 2]][version as usize - 1]);
-        let mut text = Parts::good(rng, other).text();
-        text.push(b'\n');
-        return text;
-    }
-    let mut line = Parts::good(rng, version);
+/// A line that is ill formed, mostly, and mostly with its LF.
+pub fn ill_line(rng: &mut Rng) -> Vec<u8> {
+    let mut line = Parts::good(rng);
     let what = rng.below(19);
     match what {
         0..=10 => spoil_some(rng, &mut line),
@@ -204,12 +179,10 @@ pub fn ill_line(rng: &mut Rng, version: u64) -> Vec<u8> {
 }
 
 /// Kinds of parts, each as often as it is to be spoiled.
-const OFTEN: [Kind; 16] = [
+const OFTEN: [Kind; 14] = [
     Kind::Word,
     Kind::Hash,
     Kind::Hash,
-    Kind::Name,
-    Kind::Name,
     Kind::Number,
     Kind::Count,
     Kind::Count,
@@ -238,8 +211,6 @@ fn spoil_some(rng: &mut Rng, line: &mut Parts) {
         // No end can follow the greatest number.
         Kind::Start if rng.one_in(4) => line.put(k, MOST.to_string()),
         Kind::Number | Kind::Start => line.put(k, ill_number(rng, &text)),
-        Kind::Name if rng.one_in(3) => line.put(k, hash_for_number(rng)),
-        Kind::Name => line.put(k, ill_number(rng, &text)),
         Kind::Count => line.put(k, ill_count(rng, &text)),
         Kind::End => low_end(rng, line, k),
         Kind::Space => line.put(k, rng.pick(&[&b"  "[..], b"  ", b"", b"\t", b"\r", b"\n", b",", b" \t", b"\0", b" - ", b":", b"\xa0"])),
@@ -283,18 +254,6 @@ fn ill_hash(rng: &mut Rng, mut hash: Vec<u8>) -> Vec<u8> {
         4 | 5 => hash[k] = rng.pick(b"ABCDEF"),
         6 => hash[k] = rng.pick(b"gG/:`@ ,-\0\xff\rzx\n"),
         _ => hash.truncate(rng.pick(&[0, 1, k, 20, 38])),
-    }
-    hash
-}
-
-/// A hash where a number is due: wrong at a letter, at the digits' limit, or behind a 0.
-fn hash_for_number(rng: &mut Rng) -> Vec<u8> {
-    let mut hash = any_hash(rng);
-    match rng.below(4) {
-        0 => hash[0] = b'0',
-        1 => hash[..12].iter_mut().for_each(|digit| *digit = rng.pick(b"123456789")),
-        2 => hash[..32].fill(b'0'),
-        _ => {}
     }
     hash
 }
@@ -412,7 +371,7 @@ fn empty_range(rng: &mut Rng, line: &mut Parts) {
 /// Without the rest of a line from the start of a field on, or one field less or twice; or all P's are gone.
 fn cut_fields(rng: &mut Rng, line: &mut Parts) {
     if let (Some(colon), true) = (line.0.iter().position(|part| part.kind == Kind::Colon), rng.percent(50)) {
-        // Before a colon stand a name and a space.
+        // Before a colon stand a hash and a space.
         return line.0.truncate(colon - rng.pick(&[1, 2, 2, 2]));
     }
     let Some(k) = line.some(rng, Kind::Space) else { return };
@@ -464,13 +423,12 @@ fn odd_byte(rng: &mut Rng, text: &mut Vec<u8>) {
     }
 }
 
-/// A header of this version that is ill formed, mostly: all of it, or what there is of it. Now and then its first line says another version.
-pub fn ill_header(rng: &mut Rng, version: u64) -> Vec<u8> {
-    let told = if rng.one_in(8) { rng.pick(&[0, 1, 2, 3, 4, 10, 4_294_967_295]) } else { version };
-    let good = [told.to_string(), rng.below(12).to_string(), rng.below(4).to_string(), rng.below(4).to_string()];
+/// A header that is ill formed, mostly: all of it, or what there is of it.
+pub fn ill_header(rng: &mut Rng) -> Vec<u8> {
+    let good = ["3".to_string(), rng.below(12).to_string(), rng.below(4).to_string(), rng.below(4).to_string()];
     let mut lines = good.map(String::into_bytes);
-    let mut ends = if version == 1 { 2 } else { 4 };
-    let k = rng.below(ends);
+    let k = rng.below(4);
+    let mut ends = 4;
     match rng.below(10) {
         0..=3 => lines[k] = ill_number(rng, &lines[k]),
         4 => lines[k].clear(),
@@ -491,24 +449,14 @@ pub fn ill_header(rng: &mut Rng, version: u64) -> Vec<u8> {
     text
 }
 
-/// A list of this version of a few lines with a header, one of them ill formed: a line, or the header.
-pub fn ill_list(rng: &mut Rng, version: u64) -> Vec<u8> {
-    const ALL: [&str; 5] = ["zero 2,0,1\n", "erase 4,0,1,7,8\n", "new 2,3,5\n", "new 4,2,3,6,7\n", "zero 6,0,1,1,2,7,8\n"];
-    const FIRST: [&str; 5] = [
-        "move 2,0,3 2,1,4\n",
-        "move 4,7,8,0,1 2,1,3\n",
-        "move 2,0,1 2,0,1\n",
-        "bsdiff 0 4 2,0,3 2,1,2\n",
-        "bsdiff 4 0 2,0,1 4,1,2,5,6\n",
-    ];
-    const SECOND: [&str; 5] = [
-        "move 2,1,4 3 2,0,3\n",
-        "stash 4294967295 2,0,1\nfree 4294967295\n",
-        "bsdiff 0 4 2,1,2 3 2,0,3\n",
-        "stash 0 2,0,1\nmove 2,5,8 3 2,0,2 4,0,1,2,3 0:2,1,2\nfree 0\n",
-        "stash 10 2,4,5\nmove 2,5,6 1 - 10:2,0,1\nfree 10\n",
-    ];
-    const THIRD: [&str; 5] = [
+/// A list of a few lines with a header, one of them ill formed: a line, or the header.
+pub fn ill_list(rng: &mut Rng) -> Vec<u8> {
+    const GOOD: [&str; 10] = [
+        "zero 2,0,1\n",
+        "erase 4,0,1,7,8\n",
+        "new 2,3,5\n",
+        "new 4,2,3,6,7\n",
+        "zero 6,0,1,1,2,7,8\n",
         "move 0123456789abcdef0123456789abcdef01234567 2,1,4 3 2,0,3\n",
         "stash ffffffffffffffffffffffffffffffffffffffff 2,0,1\nfree ffffffffffffffffffffffffffffffffffffffff\n",
         "bsdiff 0 4 0123456789abcdef0123456789abcdef01234567 76543210fedcba9876543210fedcba9876543210 2,1,2 3 2,0,3\n",
@@ -519,15 +467,13 @@ pub fn ill_list(rng: &mut Rng, version: u64) -> Vec<u8> {
          move 0123456789abcdef0123456789abcdef01234567 2,5,6 1 - 00000000000000000000000000000000000000bb:2,0,1\n\
          free 00000000000000000000000000000000000000bb\n",
     ];
-    let header = ["1\n7\n", "2\n7\n1\n1\n", "3\n7\n1\n1\n"][version as usize - 1];
-    let good = [ALL, [FIRST, SECOND, THIRD][version as usize - 1]].concat();
-    let mut list = if rng.one_in(7) { ill_header(rng, version) } else { header.as_bytes().to_vec() };
+    let mut list = if rng.one_in(7) { ill_header(rng) } else { b"3\n7\n1\n1\n".to_vec() };
     for _ in 0..rng.pick(&[0, 0, 0, 1, 1, 2, 4]) {
-        list.extend_from_slice(rng.pick(&good).as_bytes());
+        list.extend_from_slice(rng.pick(&GOOD).as_bytes());
     }
-    list.extend(ill_line(rng, version));
+    list.extend(ill_line(rng));
     if list.ends_with(b"\n") && rng.one_in(3) {
-        let more = if rng.percent(50) { rng.pick(&good).as_bytes().to_vec() } else { ill_line(rng, version) };
+        let more = if rng.percent(50) { rng.pick(&GOOD).as_bytes().to_vec() } else { ill_line(rng) };
         list.extend(more);
     }
     list

@@ -2,10 +2,8 @@
 
 use super::command::{Command, Source};
 use super::sets::{any_set, one_block_less, put_empty};
-use super::world::any_number;
 use super::{patch, Rng, World};
-use crate::told;
-use reference::{Hash, MOST_AREA, MOST_STASHES};
+use reference::{MOST_AREA, MOST_STASHES};
 use std::ops::Range;
 
 #[derive(Clone, Copy)]
@@ -31,11 +29,10 @@ enum Fault {
     PatchPlace,
     Result,
     Field,
-    Told,
 }
 
 /// Each as often as it is to be tried.
-const FAULTS: [Fault; 34] = [
+const FAULTS: [Fault; 32] = [
     Fault::Version,
     Fault::Total,
     Fault::MostStashes,
@@ -68,8 +65,6 @@ const FAULTS: [Fault; 34] = [
     Fault::PatchPlace,
     Fault::Result,
     Fault::Field,
-    Fault::Told,
-    Fault::Told,
 ];
 
 fn is_move(command: &Command) -> bool {
@@ -100,10 +95,6 @@ fn names_stashes(command: &Command) -> bool {
     moves_stashes(command) || matches!(command, Command::Free { .. })
 }
 
-fn differs_by_version(command: &Command) -> bool {
-    has_source(command) || matches!(command, Command::Stash { .. } | Command::Free { .. })
-}
-
 impl World {
     /// Makes one thing wrong, mostly so that a certain number applies. Line 2 mostly follows what is now counted.
     pub fn spoil(&mut self, rng: &mut Rng) {
@@ -123,7 +114,7 @@ impl World {
         let at = rng.below(count);
         let [_, _, stashes, blocks] = self.header;
         match fault {
-            Fault::Version => self.header[0] = rng.pick(&[0, 0, 1, 2, 3, 4, 4, 10, 33, 4_294_967_295]),
+            Fault::Version => self.header[0] = rng.pick(&[0, 1, 2, 4, 33, 4_294_967_295]),
             Fault::Total => self.other_total(rng),
             Fault::MostStashes => {
                 let most = MOST_STASHES as u64;
@@ -167,7 +158,6 @@ impl World {
             Fault::PatchPlace => self.other_patch_place(rng, self.seek(at, is_bsdiff)),
             Fault::Result => self.other_result(rng, self.seek(at, is_bsdiff)),
             Fault::Field => self.other_fields(rng, self.seek(at, is_bsdiff)),
-            Fault::Told => self.other_telling(rng, self.seek(at, differs_by_version)),
         }
     }
 
@@ -259,7 +249,8 @@ impl World {
         if self.commands.is_empty() {
             return;
         }
-        let mut name = self.any_name(rng);
+        let mut name = [0u8; 20];
+        name[rng.below(20)] = rng.next_u64() as u8;
         let other = rng.below(self.commands.len());
         if let Command::Stash { hash, .. } | Command::Move { hash, .. } | Command::Bsdiff { hash, .. } | Command::Free { hash } =
             &self.commands[other]
@@ -317,8 +308,7 @@ impl World {
         let at = if rng.percent(70) { first } else { rng.between(first, self.commands.len()) };
         self.header[2] = (first as u64).max(self.header[2]);
         self.header[3] = self.stash as u64;
-        let hash = if self.version == 2 { told::numbered(0xcdcd_cdcd) } else { [0xcd; 20] };
-        self.commands.insert(at, Command::Stash { hash, source: vec![(0, 1)] });
+        self.commands.insert(at, Command::Stash { hash: [0xcd; 20], source: vec![(0, 1)] });
     }
 
     /// Places taken twice, or at N and above.
@@ -347,7 +337,7 @@ impl World {
     fn one_more_stash(&mut self, rng: &mut Rng, at: usize) {
         let k = rng.between(1, self.work + 1);
         let source = any_set(rng, k, self.image.len().max(1));
-        let mut hash = self.any_name(rng);
+        let mut hash = [rng.next_u64() as u8; 20];
         let old = self.commands.iter().find_map(|c| if let Command::Stash { hash, .. } = c { Some(*hash) } else { None });
         if rng.percent(70) {
             hash = old.unwrap_or(hash);
@@ -472,7 +462,7 @@ impl World {
     fn other_fields(&mut self, rng: &mut Rng, at: usize) {
         let Some(command) = self.commands.get_mut(at) else { return };
         let mut text = Vec::new();
-        command.text(self.version, &mut text);
+        command.text(&mut text);
         text.pop();
         let mut fields: Vec<&[u8]> = text.split(|c| *c == b' ').collect();
         let k = rng.below(fields.len());
@@ -486,27 +476,7 @@ impl World {
         *command = Command::Raw(fields.join(&b' '));
     }
 
-    /// A line as another version has it.
-    fn other_telling(&mut self, rng: &mut Rng, at: usize) {
-        let Some(command) = self.commands.get_mut(at) else { return };
-        let other = rng.pick(&[[2, 3], [1, 3], [1, 2]][self.version as usize - 1]);
-        let mut text = Vec::new();
-        command.text(other, &mut text);
-        text.pop();
-        *command = Command::Raw(text);
-    }
-
-    /// A name that need not be held: in version 2 mostly a number.
-    fn any_name(&self, rng: &mut Rng) -> Hash {
-        if self.version == 2 && rng.percent(90) {
-            return told::numbered(any_number(rng, |_| true));
-        }
-        let mut name = [0u8; 20];
-        name[rng.below(20)] = rng.next_u64() as u8;
-        name
-    }
-
-    /// Changes one hash that a run compares, if the version has any.
+    /// Changes one hash that a run compares.
     pub fn wrong_hash(&mut self, rng: &mut Rng) {
         let count = self.commands.len();
         let from = rng.below(count);
@@ -522,9 +492,8 @@ impl World {
     }
 }
 
-/// Lines that are no good in version 3, but for the seventh where there is as much patch data; the first six by the word alone, refused with 7. The
-/// last are good in another version, or nearly.
-const RAW_LINES: [&[u8]; 42] = [
+/// Lines that are no good, but for the seventh where there is as much patch data; the first six by the word alone, refused with 7.
+const RAW_LINES: [&[u8]; 30] = [
     b"imgdiff 0 3169086 ffc645d03fa4f56e72fefa872b792a76c26f9bb4 4bc0c9ddf123d54a04c800824c0951873e195ef1 2,0,1 1 2,0,1",
     b"imgdiff 1 2 x",
     b"imgdiff 0 0 da39a3ee5e6b4b0d3255bfef95601890afd80709 da39a3ee5e6b4b0d3255bfef95601890afd80709 2,0,0 0 2,0,0",
@@ -555,16 +524,4 @@ const RAW_LINES: [&[u8]; 42] = [
     b"zero 2,0,1\r",
     b"free da39a3ee5e6b4b0d3255bfef95601890afd80709 ",
     b"move da39a3ee5e6b4b0d3255bfef95601890afd80709 2,0,1 1 2,0,1 2,0,1",
-    b"move 2,0,1 2,0,1",
-    b"move 2,0,1 1 2,0,1",
-    b"move 2,0,1 1 2,0,1 2,0,1",
-    b"move 2,0,1 1 - 10:2,0,1",
-    b"bsdiff 0 0 2,0,1 2,0,1",
-    b"bsdiff 0 0 2,0,1 1 2,0,1",
-    b"stash 01 2,0,1",
-    b"stash 4294967296 2,0,1",
-    b"stash 10",
-    b"free 00",
-    b"free 10 ",
-    b"stash 00000000000000000000000000000000000000aa 2,0,1",
 ];

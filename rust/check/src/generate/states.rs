@@ -2,23 +2,19 @@
 
 use super::lines::line_starts;
 use super::Rng;
-use crate::told::{self, hash_at, held_under, numbered, part_name, ranges};
+use crate::coverage::ranges;
 use reference::{Hash, Refusal, State, BLOCK, MOST_AREA, MOST_STASHES};
 
 /// Changes one thing in a state: at a border, at random, or so that it is another possible state.
 pub fn disturb(rng: &mut Rng, state: &mut State, list: &[u8]) {
     let starts = line_starts(list);
-    let (version, header) = (told::version(list), told::header_lines(list));
-    if version == 2 && rng.one_in(10) {
-        return no_number(rng, state);
-    }
     match rng.below(44) {
         0 => {
             let near = rng.pick(&[state.count, 64, MOST_STASHES, MOST_STASHES]);
             state.count = rng.pick(&[0, 1, 2, usize::MAX, near, near.wrapping_add(1), near.wrapping_add(1), near.wrapping_sub(1)]);
         }
         1 => {
-            let near = rng.pick(&[state.at, list.len(), starts.get(header).copied().unwrap_or(0)]);
+            let near = rng.pick(&[state.at, list.len(), starts.get(4).copied().unwrap_or(0)]);
             state.at = border(rng, near);
         }
         2 => {
@@ -55,7 +51,7 @@ pub fn disturb(rng: &mut Rng, state: &mut State, list: &[u8]) {
         11 => {
             // Sizes whose sum passes 64 bits.
             state.count = state.count.clamp(2, MOST_STASHES);
-            set_hash(state, 0, &made_up(rng, version, 1));
+            set_hash(state, 0, &[1; 20]);
             state.sizes[0] = usize::MAX;
             state.sizes[1] = rng.pick(&[1, 2, usize::MAX, 3]);
         }
@@ -75,7 +71,7 @@ pub fn disturb(rng: &mut Rng, state: &mut State, list: &[u8]) {
         14..=16 => {
             // One stash more, often one that the text names.
             if state.count < MOST_STASHES {
-                let hash = named_hash(rng, list).unwrap_or_else(|| made_up(rng, version, 7));
+                let hash = named_hash(rng, list).unwrap_or([7; 20]);
                 let k = state.count;
                 set_hash(state, k, &hash);
                 state.sizes[k] = rng.below(3);
@@ -107,8 +103,8 @@ pub fn disturb(rng: &mut Rng, state: &mut State, list: &[u8]) {
             let count = rng.pick(&[MOST_STASHES, MOST_STASHES, MOST_STASHES - 1, MOST_STASHES + 1, MOST_STASHES + 1, 65, 3]);
             let last = count.min(MOST_STASHES) - 1;
             for k in 0..=last {
-                let mut hash = if version == 2 { numbered(0xe0) } else { [0xe0; 20] };
-                hash[18..].copy_from_slice(&(k as u16).to_be_bytes());
+                let mut hash = [0xe0; 20];
+                hash[19] = k as u8;
                 set_hash(state, k, &hash);
                 state.sizes[k] = 0;
             }
@@ -126,7 +122,7 @@ pub fn disturb(rng: &mut Rng, state: &mut State, list: &[u8]) {
         24..=29 => without_blocks(rng, state, list, &starts),
         30 | 31 => state.total = rng.next_u64(),
         32..=43 => {
-            let line = header + 1 + rng.below(starts.len().saturating_sub(header));
+            let line = 5 + rng.below(starts.len().saturating_sub(4));
             mark_line(rng, state, list, line);
         }
         // With a number or with none.
@@ -135,39 +131,10 @@ pub fn disturb(rng: &mut Rng, state: &mut State, list: &[u8]) {
     }
 }
 
-/// A hash held that is no number, at any place: by a bit of the bytes that must be zeros, or all of it another.
-fn no_number(rng: &mut Rng, state: &mut State) {
-    if state.count == 0 || state.count > MOST_STASHES || rng.one_in(4) {
-        // A few of a block each, to have one of them.
-        state.count = rng.between(1, 3);
-        for k in 0..state.count {
-            set_hash(state, k, &numbered(k as u32 + 70));
-            state.sizes[k] = 1;
-        }
-    }
-    let last = state.count - 1;
-    let k = rng.pick(&[0, last, last / 2]);
-    match rng.below(4) {
-        0 => state.hashes[20 * k + rng.below(16)] ^= 1 << rng.below(8),
-        1 => state.hashes[20 * k + 15] = 1,
-        2 => state.hashes[20 * k] = 0x80,
-        _ => set_hash(state, k, &[0xb0 + k as u8; 20]),
-    }
-}
-
-/// A hash that no list names: in version 2 mostly a number.
-fn made_up(rng: &mut Rng, version: u64, byte: u8) -> Hash {
-    match version {
-        2 if rng.percent(90) => numbered(u32::from_be_bytes([byte; 4])),
-        _ => [byte; 20],
-    }
-}
-
 /// At a line that names stashes: they are held, the first of them without blocks.
 fn without_blocks(rng: &mut Rng, state: &mut State, list: &[u8], starts: &[usize]) {
-    let version = told::version(list);
     let of = |word: &[u8]| -> Vec<usize> {
-        (0..starts.len()).filter(|k| list[starts[*k]..].starts_with(word) && !stashes_named(version, &list[starts[*k]..]).is_empty()).collect()
+        (0..starts.len()).filter(|k| list[starts[*k]..].starts_with(word) && !stashes_named(&list[starts[*k]..]).is_empty()).collect()
     };
     let mut kinds = [&b"free "[..], b"move ", b"bsdiff ", b"stash "].map(of);
     // Nearly every list that has the others has the last, and few have the first.
@@ -177,7 +144,7 @@ fn without_blocks(rng: &mut Rng, state: &mut State, list: &[u8], starts: &[usize
     let Some(lines) = kinds.iter().find(|lines| !lines.is_empty()) else { return };
     let k = rng.pick(lines);
     (state.at, state.line, state.into, state.count) = (starts[k], k + 1, 0, 0);
-    for hash in stashes_named(version, &list[starts[k]..]) {
+    for hash in stashes_named(&list[starts[k]..]) {
         let j = state.count;
         if j < MOST_STASHES && !state.hashes[..20 * j].chunks(20).any(|other| other == hash) {
             set_hash(state, j, &hash);
@@ -192,9 +159,8 @@ fn without_blocks(rng: &mut Rng, state: &mut State, list: &[u8], starts: &[usize
 pub fn mark_line(rng: &mut Rng, state: &mut State, list: &[u8], line: usize) {
     let starts = line_starts(list);
     let of = |words: &[&[u8]]| -> Vec<usize> {
-        (told::header_lines(list)..starts.len()).filter(|k| words.iter().any(|word| list[starts[*k]..].starts_with(word))).map(|k| k + 1).collect()
+        (4..starts.len()).filter(|k| words.iter().any(|word| list[starts[*k]..].starts_with(word))).map(|k| k + 1).collect()
     };
-    let version = told::version(list);
     let kind = rng.below(10);
     let wanted = match kind {
         0..=3 => of(&[b"move ", b"stash ", b"bsdiff "]),
@@ -211,13 +177,13 @@ pub fn mark_line(rng: &mut Rng, state: &mut State, list: &[u8], line: usize) {
     match kind {
         0..=3 => {
             state.ready = any_mark(rng);
-            other_stashes(rng, state, version, &list[at..]);
+            other_stashes(rng, state, &list[at..]);
         }
-        4..=6 => stretched(rng, state, version, &list[at..]),
+        4..=6 => stretched(rng, state, &list[at..]),
         7 | 8 => {
             // Anywhere among those held.
             if state.count == 0 {
-                set_hash(state, 0, &made_up(rng, version, 5));
+                set_hash(state, 0, &[5; 20]);
                 state.count = 1;
             }
             let last = state.count.clamp(1, MOST_STASHES) - 1;
@@ -238,11 +204,10 @@ fn any_mark(rng: &mut Rng) -> usize {
 
 /// The stashes that the lines before this one leave.
 fn hold_before(state: &mut State, list: &[u8], line: usize) {
-    let version = told::version(list);
     let mut held: Vec<(Hash, usize)> = Vec::new();
     for text in list.split(|c| *c == b'\n').take(line - 1) {
         let mut fields = text.split(|c| *c == b' ');
-        match (fields.next(), fields.next().and_then(|name| held_under(version, name)), fields.next().and_then(ranges)) {
+        match (fields.next(), fields.next().and_then(hash_at), fields.next().and_then(ranges)) {
             (Some(b"stash"), Some(hash), Some(set)) => held.push((hash, blocks_in(&set))),
             (Some(b"free"), Some(hash), None) => held.retain(|stash| stash.0 != hash),
             _ => {}
@@ -261,7 +226,7 @@ fn blocks_in(set: &[(u64, u64)]) -> usize {
 }
 
 /// Now and then another stash or another size than the line at the text's start wants: 10, 11, 13, 14.
-fn other_stashes(rng: &mut Rng, state: &mut State, version: u64, text: &[u8]) {
+fn other_stashes(rng: &mut Rng, state: &mut State, text: &[u8]) {
     match rng.below(12) {
         0 => state.count = state.count.saturating_sub(1),
         1 | 2 if state.count > 0 => {
@@ -270,8 +235,7 @@ fn other_stashes(rng: &mut Rng, state: &mut State, version: u64, text: &[u8]) {
         }
         3 | 4 => {
             // The stash that it makes is held already, or one more than there is room for.
-            let named = stashes_named(version, text).first().copied().filter(|_| rng.percent(60));
-            let hash = named.unwrap_or_else(|| made_up(rng, version, 6));
+            let hash = stashes_named(text).first().copied().filter(|_| rng.percent(60)).unwrap_or([6; 20]);
             if state.count < MOST_STASHES {
                 let k = state.count;
                 set_hash(state, k, &hash);
@@ -284,10 +248,9 @@ fn other_stashes(rng: &mut Rng, state: &mut State, version: u64, text: &[u8]) {
 }
 
 /// At a `free`: stretches about as many as there are, of younger stashes that may be made for it.
-fn stretched(rng: &mut Rng, state: &mut State, version: u64, text: &[u8]) {
+fn stretched(rng: &mut Rng, state: &mut State, text: &[u8]) {
     state.stretches = rng.pick(&[1, 1, 2, usize::MAX, 1 << 63]);
-    let name = text.strip_prefix(b"free ").and_then(|rest| rest.split(|c| *c == b'\n').next());
-    let Some(hash) = name.and_then(|name| held_under(version, name)) else { return };
+    let Some(hash) = text.strip_prefix(b"free ").and_then(hash_at) else { return };
     let find = |state: &State| (0..state.count).find(|k| state.hashes[20 * k..20 * k + 20] == hash);
     if find(state).is_none() && state.count < MOST_STASHES && rng.percent(80) {
         let k = state.count;
@@ -298,7 +261,7 @@ fn stretched(rng: &mut Rng, state: &mut State, version: u64, text: &[u8]) {
     for id in 0..rng.pick(&[0, 0, 1, 1, 2]) {
         if state.count < MOST_STASHES {
             let k = state.count;
-            set_hash(state, k, &made_up(rng, version, 0xd0 + id));
+            set_hash(state, k, &[0xd0 + id; 20]);
             state.sizes[k] = rng.between(1, 3);
             state.count += 1;
         }
@@ -313,7 +276,7 @@ fn stretched(rng: &mut Rng, state: &mut State, version: u64, text: &[u8]) {
     state.stretches = rng.pick(&[all.saturating_sub(1), all.saturating_sub(1), fewer, all, all, all.saturating_add(1), usize::MAX]);
     if rng.one_in(8) {
         // Not held any more: another hash in its place.
-        set_hash(state, j, &made_up(rng, version, 0xc0));
+        set_hash(state, j, &[0xc0; 20]);
     }
 }
 
@@ -366,23 +329,34 @@ fn set_hash(state: &mut State, k: usize, hash: &Hash) {
     state.hashes[20 * k..20 * k + 20].copy_from_slice(hash);
 }
 
-/// What some stash or hash that the text names is held under, if it names any.
+/// A hash that the text names, if it names any.
 fn named_hash(rng: &mut Rng, list: &[u8]) -> Option<Hash> {
-    let version = told::version(list);
-    if version < 3 {
-        let all: Vec<Hash> = list.split_inclusive(|c| *c == b'\n').flat_map(|line| stashes_named(version, line)).collect();
-        return (!all.is_empty()).then(|| rng.pick(&all));
-    }
-    let is_digit = |c: u8| matches!(c, b'0'..=b'9' | b'a'..=b'f');
+    let is_digit = |c: u8| hex_value(c).is_some();
     let starts: Vec<usize> = (0..list.len()).filter(|k| (*k == 0 || !is_digit(list[*k - 1])) && hash_at(&list[*k..]).is_some()).collect();
     (!starts.is_empty()).then(|| hash_at(&list[rng.pick(&starts)..]))?
 }
 
-/// What the stashes are held under that the line at the text's start makes, frees or takes a source from.
-fn stashes_named(version: u64, text: &[u8]) -> Vec<Hash> {
+/// The stashes that the line at the text's start makes, frees or takes a source from.
+fn stashes_named(text: &[u8]) -> Vec<Hash> {
     let line = text.split(|c| *c == b'\n').next().unwrap_or(b"");
-    if let Some(rest) = line.strip_prefix(b"free ").or(line.strip_prefix(b"stash ")) {
-        return rest.split(|c| *c == b' ').next().and_then(|name| held_under(version, name)).into_iter().collect();
+    let one = line.starts_with(b"free ") || line.starts_with(b"stash ");
+    line.split(|c| *c == b' ').filter(|field| one || field.get(40) == Some(&b':')).filter_map(hash_at).collect()
+}
+
+/// The hash that these bytes begin with.
+fn hash_at(text: &[u8]) -> Option<Hash> {
+    let digits = text.first_chunk::<40>()?;
+    let mut hash = [0u8; 20];
+    for (byte, two) in hash.iter_mut().zip(digits.chunks(2)) {
+        *byte = 16 * hex_value(two[0])? + hex_value(two[1])?;
     }
-    line.split(|c| *c == b' ').filter_map(part_name).filter_map(|name| held_under(version, name)).collect()
+    Some(hash)
+}
+
+fn hex_value(c: u8) -> Option<u8> {
+    match c {
+        b'0'..=b'9' => Some(c - b'0'),
+        b'a'..=b'f' => Some(c - b'a' + 10),
+        _ => None,
+    }
 }

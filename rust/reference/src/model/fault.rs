@@ -2,11 +2,10 @@
 //! whole lines says alone.
 //!
 //! An ending that makes a line good proves that it can go on. Where none of those that are tried does, none does at all:
-//! - Fields before the last one stay as they are. Behind the last one come those of some form of the version with the same word, and any will do,
-//!   since no field's form depends on what another one says. Behind its last field a form can only go on with P's.
-//! - A word, a hash, a dash, and a P up to its colon where a hash stands before that have one length, and so has a field with no byte yet: what it
-//!   lacks is what the form's own field has from there on. A hash takes any digits.
-//! - A P that has a number for its name is good with the digits that it has, a colon where there is none yet, and a set.
+//! - Fields before the last one stay as they are. Behind the last one come those of some form with the same word, and any will do, since no
+//!   field's form depends on what another one says. Behind its last field a form can only go on with P's.
+//! - A word, a hash, a dash, and a P up to its colon have one length, and so has a field with no byte yet: what it lacks is what the form's own
+//!   field has from there on. A hash takes any digits.
 //! - A number that is no end is good with the digits that it has, or with a 0 where it has none: a digit more makes no start smaller. A count
 //!   that is odd may be even with a digit more; the least that can follow is a 0, and makes it even.
 //! - An end passes its start if the greatest number does that begins with its digits: 4,294,967,295 if that does, else they and as many nines
@@ -19,30 +18,11 @@ use super::read::{decode, number};
 
 const HASH: &str = "0000000000000000000000000000000000000000";
 const PART: &str = "0000000000000000000000000000000000000000:2,0,1";
-const NUMBERED: &str = "0:2,0,1";
 const SET: &str = "2,0,1";
 const MOST: &str = "4294967295";
 
-/// A line of each form of version 1, by its fields.
-const FIRST: [&[&str]; 5] = [&["zero", SET], &["erase", SET], &["new", SET], &["move", SET, SET], &["bsdiff", "0", "0", SET, SET]];
-
-/// Of version 2.
-const SECOND: [&[&str]; 11] = [
-    &["zero", SET],
-    &["erase", SET],
-    &["new", SET],
-    &["stash", "0", SET],
-    &["free", "0"],
-    &["move", SET, "0", SET],
-    &["move", SET, "0", "-", NUMBERED],
-    &["move", SET, "0", SET, SET, NUMBERED],
-    &["bsdiff", "0", "0", SET, "0", SET],
-    &["bsdiff", "0", "0", SET, "0", "-", NUMBERED],
-    &["bsdiff", "0", "0", SET, "0", SET, SET, NUMBERED],
-];
-
-/// Of version 3.
-const THIRD: [&[&str]; 11] = [
+/// A line of each form, by its fields.
+const FORMS: [&[&str]; 11] = [
     &["zero", SET],
     &["erase", SET],
     &["new", SET],
@@ -57,15 +37,10 @@ const THIRD: [&[&str]; 11] = [
 ];
 
 /// Which byte of a command line, which is no good, is the first at which no good line goes on: one of it, its LF, or the text's end behind it.
-pub(super) fn of_command(version: u64, line: &[u8]) -> usize {
-    let forms: &[&[&str]] = match version {
-        1 => &FIRST,
-        2 => &SECOND,
-        _ => &THIRD,
-    };
+pub(super) fn of_command(line: &[u8]) -> usize {
     longest(line, |start| {
         let fields: Vec<&[u8]> = start.split(|c| *c == b' ').collect();
-        forms.iter().filter(|form| fields.len() == 1 || form[0].as_bytes() == fields[0]).any(|form| goes_on(version, &fields, form))
+        FORMS.iter().filter(|form| fields.len() == 1 || form[0].as_bytes() == fields[0]).any(|form| goes_on(&fields, form))
     })
 }
 
@@ -90,7 +65,7 @@ fn longest(line: &[u8], can: impl Fn(&[u8]) -> bool) -> usize {
 }
 
 /// Whether these fields, the last of them with some ending, and those that the form has behind it are a good line.
-fn goes_on(version: u64, fields: &[&[u8]], form: &[&str]) -> bool {
+fn goes_on(fields: &[&[u8]], form: &[&str]) -> bool {
     let (before, last) = fields.split_at(fields.len() - 1);
     let here = form.get(before.len()).unwrap_or(&form[form.len() - 1]);
     let after = form.get(fields.len()..).unwrap_or(&[]);
@@ -99,7 +74,7 @@ fn goes_on(version: u64, fields: &[&[u8]], form: &[&str]) -> bool {
         let mut line = before.to_vec();
         line.push(&whole);
         line.extend(after.iter().map(|field| field.as_bytes()));
-        decode(version, &[line.join(&b' '), b"\n".to_vec()].concat()).is_ok()
+        decode(&[line.join(&b' '), b"\n".to_vec()].concat()).is_ok()
     })
 }
 
@@ -109,7 +84,7 @@ fn endings(field: &[u8], form: &str) -> Vec<String> {
     let digits = field.iter().rev().take_while(|c| c.is_ascii_digit()).count();
     let mut all = vec![form.get(field.len()..).unwrap_or("").to_string()];
     match commas {
-        0 => all.extend([",0,1", "0,0,1", ":2,0,1", "2,0,1"].map(String::from)),
+        0 => all.extend([",0,1", "0,0,1"].map(String::from)),
         _ if commas % 2 == 1 => all.extend(["", "0"].map(|more| format!("{more},{MOST}"))),
         _ => {
             all.extend((0..=9).map(|nines| "9".repeat(nines)));

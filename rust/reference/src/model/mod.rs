@@ -10,7 +10,7 @@ mod sparse;
 mod writes;
 
 use crate::{Answer, Areas, Lengths, Outcome, Refusal, Rooms, State, BLOCK, MOST_STASHES};
-use read::{blocks, decode, numbered, past, rules, size, Command, Ranges, Rules, Source};
+use read::{blocks, decode, past, rules, size, Command, Ranges, Rules, Source};
 use run::{End, Part, Run};
 pub use sparse::load_sparse;
 pub use writes::{writes, Writes};
@@ -86,22 +86,21 @@ fn faults(command: &Command, rules: &Rules, held: &Held) -> Vec<usize> {
 
 /// The command of the line that starts at this byte; or the number that it is refused with, and for 6 the byte.
 fn judge(line: &[u8], at: usize, rules: &Rules, held: &Held) -> Result<Command, (usize, usize)> {
-    let version = rules.version;
-    let command = decode(version, line).map_err(|number| (number, if number == 6 { at + fault::of_command(version, line) } else { 0 }))?;
+    let command = decode(line).map_err(|number| (number, if number == 6 { at + fault::of_command(line) } else { 0 }))?;
     match faults(&command, rules, held).into_iter().min() {
         Some(number) => Err((number, 0)),
         None => Ok(command),
     }
 }
 
-/// The rules of an opening, or its refusal.
-fn opening(list: &[u8], lengths: &Lengths) -> Result<Rules, Refusal> {
+/// The refusal of an opening, if any, and where its first command line starts.
+fn opening(list: &[u8], lengths: &Lengths) -> Result<usize, Refusal> {
     let rules = rules(list, lengths)?;
     let mut held: Vec<(Vec<u8>, u64)> = Vec::new();
     let mut counted: Vec<u64> = Vec::new();
     let mut at = rules.after;
     for (k, line) in list[rules.after..].split_inclusive(|c| *c == b'\n').enumerate() {
-        match judge(line, at, &rules, &held).map_err(|(number, byte)| Refusal { number, line: rules.first + k, byte })? {
+        match judge(line, at, &rules, &held).map_err(|(number, byte)| Refusal { number, line: k + 5, byte })? {
             Command::New(target) | Command::Zero(target) => counted.push(size(&target)),
             Command::Move { target, .. } | Command::Bsdiff { target, .. } => counted.push(size(&target)),
             Command::Erase(_) => {}
@@ -113,16 +112,16 @@ fn opening(list: &[u8], lengths: &Lengths) -> Result<Rules, Refusal> {
     if counted.iter().sum::<u64>() != rules.total {
         return Err(Refusal { number: 15, line: 2, byte: 0 });
     }
-    Ok(rules)
+    Ok(rules.after)
 }
 
 pub fn open(list: &[u8], rooms: Rooms) -> State {
     let lengths = Lengths::of(list, rooms);
     let mut state = State::ZERO;
     match opening(list, &lengths) {
-        Ok(rules) => {
-            state.line = rules.first;
-            state.at = rules.after;
+        Ok(at) => {
+            state.line = 5;
+            state.at = at;
             state.lengths = lengths;
         }
         Err(refusal) => state.refusal = refusal,
@@ -134,7 +133,7 @@ fn impossible(list: &[u8], lengths: &Lengths, state: &State) -> bool {
     let Ok(rules) = rules(list, lengths) else { return true };
     let starts: Vec<usize> = std::iter::once(0).chain((0..list.len()).filter(|k| list[*k] == b'\n').map(|k| k + 1)).collect();
     let Some(before) = starts.iter().position(|start| *start == state.at) else { return true };
-    if *lengths != state.lengths || before + 1 < rules.first || before + 1 != state.line || state.count > MOST_STASHES {
+    if *lengths != state.lengths || before < 4 || before + 1 != state.line || state.count > MOST_STASHES {
         return true;
     }
     let held = stashes(state);
@@ -145,10 +144,6 @@ fn impossible(list: &[u8], lengths: &Lengths, state: &State) -> bool {
         return true;
     }
     if held.iter().any(|stash| stash.1 == 0) {
-        return true;
-    }
-    let value = |name: &[u8]| name[16..].iter().fold(0, |value, byte| 256 * value + *byte as u64);
-    if rules.version == 2 && held.iter().any(|stash| stash.0 != numbered(value(&stash.0))) {
         return true;
     }
     let line = list[state.at..].split_inclusive(|c| *c == b'\n').next().unwrap_or(b"");
@@ -169,8 +164,7 @@ fn begin<'a>(list: &[u8], areas: Areas<'a>, piece: &'a [u8], state: State) -> Re
         return Err(Refusal { number: 17, line: 0, byte: 0 });
     }
     let Areas { image, stash, work, result, patch } = areas;
-    let rules = rules(list, &lengths).expect("possible");
-    Ok((Run { hashed: rules.version == 3, image, stash, work, result, patch, piece, state, taken: 0 }, rules))
+    Ok((Run { image, stash, work, result, patch, piece, state, taken: 0 }, rules(list, &lengths).expect("possible")))
 }
 
 /// One call with one piece of new data, to the next stop or to where the run ends.

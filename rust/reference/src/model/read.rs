@@ -11,8 +11,6 @@ pub(super) enum Source {
     Both(Ranges, Ranges, Vec<(Vec<u8>, Ranges)>),
 }
 
-/// A command of any version. What a version does not have of it is empty: in versions 1 and 2 the hashes that a run would compare. The hash of a
-/// stash is what it is held under.
 pub(super) enum Command {
     Zero(Ranges),
     Erase(Ranges),
@@ -34,19 +32,6 @@ fn hash(field: &[u8]) -> Option<Vec<u8>> {
     (digits.len() == 40).then(|| digits.chunks(2).map(|two| two[0] << 4 | two[1]).collect())
 }
 
-/// What a stash with this number is held under: 32 zeros and the number in eight digits.
-pub(super) fn numbered(n: u64) -> Vec<u8> {
-    hash(format!("{:032}{n:08x}", 0).as_bytes()).expect("40 digits")
-}
-
-/// What names a stash.
-fn name(version: u64, field: &[u8]) -> Option<Vec<u8>> {
-    match version {
-        2 => number(field).map(numbered),
-        _ => hash(field),
-    }
-}
-
 fn ranges(field: &[u8]) -> Option<Ranges> {
     let numbers: Vec<u64> = field.split(|c| *c == b',').map(number).collect::<Option<_>>()?;
     let (count, ends) = numbers.split_first()?;
@@ -57,7 +42,7 @@ fn ranges(field: &[u8]) -> Option<Ranges> {
     pairs.iter().all(|(start, end)| start < end).then_some(pairs)
 }
 
-fn parts(version: u64, fields: &[&[u8]]) -> Option<Vec<(Vec<u8>, Ranges)>> {
+fn parts(fields: &[&[u8]]) -> Option<Vec<(Vec<u8>, Ranges)>> {
     if fields.is_empty() {
         return None;
     }
@@ -65,69 +50,47 @@ fn parts(version: u64, fields: &[&[u8]]) -> Option<Vec<(Vec<u8>, Ranges)>> {
         .iter()
         .map(|field| {
             let colon = field.iter().position(|c| *c == b':')?;
-            Some((name(version, &field[..colon])?, ranges(&field[colon + 1..])?))
+            Some((hash(&field[..colon])?, ranges(&field[colon + 1..])?))
         })
         .collect()
 }
 
-/// A line of this version with its LF, if it has one: the command, or 6 or 7.
-pub(super) fn decode(version: u64, line: &[u8]) -> Result<Command, usize> {
+/// A line with its LF, if it has one: the command, or 6 or 7.
+pub(super) fn decode(line: &[u8]) -> Result<Command, usize> {
     let word = line.split(|c| *c == b' ' || *c == b'\n').next().unwrap_or(b"");
     if word == b"imgdiff" {
         return Err(7);
     }
     let body = line.strip_suffix(b"\n").ok_or(6usize)?;
     let fields: Vec<&[u8]> = body.split(|c| *c == b' ').collect();
-    fields_of(version, &fields).ok_or(6)
+    fields_of(&fields).ok_or(6)
 }
 
-fn fields_of(version: u64, fields: &[&[u8]]) -> Option<Command> {
-    match (version, fields) {
-        (_, [b"zero", set]) => Some(Command::Zero(ranges(set)?)),
-        (_, [b"erase", set]) => Some(Command::Erase(ranges(set)?)),
-        (_, [b"new", set]) => Some(Command::New(ranges(set)?)),
-        (2 | 3, [b"free", stash]) => Some(Command::Free { hash: name(version, stash)? }),
-        (2 | 3, [b"stash", stash, set]) => Some(Command::Stash { hash: name(version, stash)?, source: ranges(set)? }),
-        (_, [b"move", rest @ ..]) => {
-            let Moved { hashes, target, n, source } = moved(version, 1, rest)?;
-            Some(Command::Move { hash: hashes.concat(), target, n, source })
-        }
-        (_, [b"bsdiff", from, bytes, rest @ ..]) => {
-            let Moved { mut hashes, target, n, source } = moved(version, 2, rest)?;
-            let result = hashes.pop().unwrap_or_default();
-            Some(Command::Bsdiff { patch: (number(from)?, number(bytes)?), hash: hashes.concat(), result, target, n, source })
-        }
+fn fields_of(fields: &[&[u8]]) -> Option<Command> {
+    match fields {
+        [b"zero", set] => Some(Command::Zero(ranges(set)?)),
+        [b"erase", set] => Some(Command::Erase(ranges(set)?)),
+        [b"new", set] => Some(Command::New(ranges(set)?)),
+        [b"free", name] => Some(Command::Free { hash: hash(name)? }),
+        [b"stash", name, set] => Some(Command::Stash { hash: hash(name)?, source: ranges(set)? }),
+        [b"move", name, set, n, rest @ ..] => Some(Command::Move { hash: hash(name)?, target: ranges(set)?, n: number(n)?, source: source(rest)? }),
+        [b"bsdiff", from, bytes, name, after, set, n, rest @ ..] => Some(Command::Bsdiff {
+            patch: (number(from)?, number(bytes)?),
+            hash: hash(name)?,
+            result: hash(after)?,
+            target: ranges(set)?,
+            n: number(n)?,
+            source: source(rest)?,
+        }),
         _ => None,
     }
 }
 
-/// What a `move` and a `bsdiff` have alike.
-struct Moved {
-    hashes: Vec<Vec<u8>>,
-    target: Ranges,
-    n: u64,
-    source: Source,
-}
-
-/// Its fields, where version 3 has so many hashes. In version 1 the source stands first, and says how long it is.
-fn moved(version: u64, hashes: usize, fields: &[&[u8]]) -> Option<Moved> {
-    let (first, fields) = fields.split_at_checked(if version == 3 { hashes } else { 0 })?;
-    let hashes = first.iter().map(|field| hash(field)).collect::<Option<_>>()?;
-    match (version, fields) {
-        (1, [from, set]) => {
-            let from = ranges(from)?;
-            Some(Moved { hashes, target: ranges(set)?, n: size(&from), source: Source::Image(from) })
-        }
-        (2 | 3, [set, n, rest @ ..]) => Some(Moved { hashes, target: ranges(set)?, n: number(n)?, source: source(version, rest)? }),
-        _ => None,
-    }
-}
-
-fn source(version: u64, fields: &[&[u8]]) -> Option<Source> {
+fn source(fields: &[&[u8]]) -> Option<Source> {
     match fields {
         [set] => Some(Source::Image(ranges(set)?)),
-        [b"-", after @ ..] => Some(Source::Stashes(parts(version, after)?)),
-        [set, places, after @ ..] => Some(Source::Both(ranges(set)?, ranges(places)?, parts(version, after)?)),
+        [b"-", after @ ..] => Some(Source::Stashes(parts(after)?)),
+        [set, places, after @ ..] => Some(Source::Both(ranges(set)?, ranges(places)?, parts(after)?)),
         [] => None,
     }
 }
@@ -144,12 +107,12 @@ pub(super) fn blocks(set: &Ranges) -> Vec<usize> {
     set.iter().flat_map(|(start, end)| *start as usize..*end as usize).collect()
 }
 
-/// Header numbers, two where the text begins with a line 1, else four; or the refusal 3. And the bytes the header has.
+/// Header numbers, or the refusal 3; and the bytes the header has.
 fn header(list: &[u8]) -> Result<(Vec<u64>, usize), Refusal> {
     let mut numbers = Vec::new();
     let mut length = 0;
     let mut lines = list.split_inclusive(|c| *c == b'\n');
-    for line in 1..=if list.starts_with(b"1\n") { 2 } else { 4 } {
+    for line in 1..=4 {
         let text = lines.next().unwrap_or(b"");
         let value = text.strip_suffix(b"\n").and_then(number);
         numbers.push(value.ok_or_else(|| Refusal { number: 3, line, byte: length + fault::of_header(text) })?);
@@ -159,7 +122,6 @@ fn header(list: &[u8]) -> Result<(Vec<u64>, usize), Refusal> {
 }
 
 pub(super) struct Rules {
-    pub(super) version: u64,
     pub(super) total: u64,
     pub(super) stashes: u64,
     pub(super) held: u64,
@@ -167,8 +129,6 @@ pub(super) struct Rules {
     pub(super) work: u64,
     pub(super) result: u64,
     pub(super) patch: u64,
-    /// The number of the first command line, and where it starts.
-    pub(super) first: usize,
     pub(super) after: usize,
 }
 
@@ -184,18 +144,15 @@ pub(super) fn rules(list: &[u8], lengths: &Lengths) -> Result<Rules, Refusal> {
         return Err(Refusal { number: 2, line: 0, byte: 0 });
     }
     let (numbers, after) = header(list)?;
-    let (version, total, first) = (numbers[0], numbers[1], numbers.len() + 1);
-    if ![1, 2, 3].contains(&version) {
+    if numbers[0] != 3 {
         return Err(Refusal { number: 4, line: 1, byte: 0 });
     }
-    // A line that the header does not have counts as 0.
-    let [stashes, held] = [2, 3].map(|k| numbers.get(k).copied().unwrap_or(0));
-    if stashes > MOST_STASHES as u64 {
+    if numbers[2] > MOST_STASHES as u64 {
         return Err(Refusal { number: 5, line: 3, byte: 0 });
     }
-    if held * block > lengths.stash as u64 {
+    if numbers[3] * block > lengths.stash as u64 {
         return Err(Refusal { number: 5, line: 4, byte: 0 });
     }
     let [image, work, result] = [lengths.image, lengths.work, lengths.result].map(|bytes| bytes as u64 / block);
-    Ok(Rules { version, total, stashes, held, image, work, result, patch: lengths.patch as u64, first, after })
+    Ok(Rules { total: numbers[1], stashes: numbers[2], held: numbers[3], image, work, result, patch: lengths.patch as u64, after })
 }

@@ -69,8 +69,6 @@ pub(super) enum End {
 
 /// A call while it runs: what it is lent, where it stands, and what it has taken.
 pub(super) struct Run<'a> {
-    /// Whether the list's version has hashes to compare.
-    pub(super) hashed: bool,
     pub(super) image: &'a mut [u8],
     pub(super) stash: &'a mut [u8],
     pub(super) work: &'a mut [u8],
@@ -168,10 +166,10 @@ impl Run<'_> {
         self.state.line += 1;
     }
 
-    /// The target's blocks, joined in the written order, have this hash already. Where no hash is told, none of them is known to.
+    /// The target's blocks, joined in the written order, have this hash already.
     fn finished(&self, target: &Ranges, hash: &[u8]) -> bool {
         let joined: Vec<u8> = blocks(target).into_iter().flat_map(|block| &self.image[block * BLOCK..(block + 1) * BLOCK]).copied().collect();
-        self.hashed && digest(&joined)[..] == *hash
+        digest(&joined)[..] == *hash
     }
 
     fn zeros(&mut self, target: &Ranges) {
@@ -208,7 +206,11 @@ impl Run<'_> {
                 let records = self.patch.iter().skip(patch.0 as usize).take(patch.1 as usize).copied().collect();
                 let made = patch::result(records, &self.work[..*n as usize * BLOCK], size(target) as usize * BLOCK).ok_or(19usize)?;
                 self.result[..made.len()].copy_from_slice(&made);
-                self.right(&made, result)
+                if digest(&made)[..] == **result {
+                    Ok(())
+                } else {
+                    Err(16)
+                }
             }
             _ => unreachable!("a line without an area to fill"),
         }
@@ -238,14 +240,10 @@ impl Run<'_> {
 
     /// Whether the first n blocks of the work area have this hash.
     pub(super) fn gathered(&self, n: usize, hash: &[u8]) -> Result<(), usize> {
-        self.right(&self.work[..n * BLOCK], hash)
-    }
-
-    /// Where no hash is told, any bytes will do.
-    fn right(&self, bytes: &[u8], hash: &[u8]) -> Result<(), usize> {
-        match self.hashed && digest(bytes)[..] != *hash {
-            true => Err(16),
-            false => Ok(()),
+        if digest(&self.work[..n * BLOCK])[..] == *hash {
+            Ok(())
+        } else {
+            Err(16)
         }
     }
 }

@@ -1,7 +1,7 @@
 //! Calls.
 
 use super::check::{check, Marks};
-use super::command::{decode, Bsdiff, Command, Move, Stash};
+use super::command::{decode, Bsdiff, Command, Move};
 use super::text::{Set, LEAST};
 use super::{header, open, patch, Header};
 use crate::sha1::Sha1;
@@ -61,7 +61,7 @@ fn possible(list: &[u8], lengths: &Lengths, state: &State, marks: &mut Marks) ->
         return None;
     }
     for k in 0..state.count {
-        if state.sizes[k] == 0 || (header.version == 2 && !state.is_number(k)) {
+        if state.sizes[k] == 0 {
             return None;
         }
         for j in 0..k {
@@ -77,12 +77,12 @@ fn possible(list: &[u8], lengths: &Lengths, state: &State, marks: &mut Marks) ->
         return Some(header);
     }
     // The run is within a line, which must be one that can be left there.
-    let command = decode(list, state.at, header.version, LEAST).ok()?.0;
+    let command = decode(list, state.at, LEAST).ok()?.0;
     check(list, &header, lengths, state, marks, &command).ok()?;
     let within = match command {
         Command::New(target) => state.ready == 0 && state.stretches == 0 && target.blocks * BLOCK as u64 > state.into as u64,
-        Command::Move(_) | Command::Bsdiff(_) | Command::Stash(_) => state.into == 0 && state.stretches == 0,
-        Command::Free(name) => state.into == 0 && state.ready == 0 && state.stretches < state.stretches_of(state.find(&name)?),
+        Command::Move(_) | Command::Bsdiff(_) | Command::Stash(..) => state.into == 0 && state.stretches == 0,
+        Command::Free(hash) => state.into == 0 && state.ready == 0 && state.stretches < state.stretches_of(state.find(&hash)?),
         Command::Zero(_) | Command::Erase(_) => false,
     };
     within.then_some(header)
@@ -104,7 +104,7 @@ fn run_lines(list: &[u8], header: &Header, areas: &mut Areas, piece: &[u8], stat
     let lengths = state.lengths;
     let mut taken = 0;
     while state.at < list.len() {
-        let outcome = match decode(list, state.at, header.version, LEAST) {
+        let outcome = match decode(list, state.at, LEAST) {
             Ok((command, next)) => match check(list, header, &lengths, state, marks, &command) {
                 Ok(()) => run_command(list, areas, piece, state, &mut taken, &command).map(|ran| (ran, next)).map_err(|number| (number, 0)),
                 Err(number) => Err((number, 0)),
@@ -141,7 +141,7 @@ fn run_command(list: &[u8], areas: &mut Areas, piece: &[u8], state: &mut State, 
             return Ok(Ran::On);
         }
         Command::New(target) => return Ok(if run_new(list, areas.image, piece, state, taken, target) { Ran::On } else { Ran::Wait }),
-        Command::Free(name) => return run_free(areas.stash, state, name),
+        Command::Free(hash) => return run_free(areas.stash, state, hash),
         Command::Move(line) => {
             if state.ready != 0 {
                 spread(list, areas.image, areas.work, &line.target);
@@ -161,26 +161,26 @@ fn run_command(list: &[u8], areas: &mut Areas, piece: &[u8], state: &mut State, 
                     return Err(19);
                 }
                 patch::apply(records, &areas.work[..line.n as usize * BLOCK], target);
-                if differs(target, result) {
+                if digest(target) != *result {
                     return Err(16);
                 }
                 return Ok(filled(state));
             }
         }
-        Command::Stash(Stash { name, hash, source }) => {
+        Command::Stash(hash, source) => {
             let n = source.blocks as usize;
             if state.ready == 0 {
                 for (k, block) in source.each(list).enumerate() {
                     areas.work[k * BLOCK..][..BLOCK].copy_from_slice(&areas.image[block * BLOCK..][..BLOCK]);
                 }
-                if differs(&areas.work[..n * BLOCK], hash) {
+                if digest(&areas.work[..n * BLOCK]) != *hash {
                     return Err(16);
                 }
                 return Ok(filled(state));
             }
             let after = state.blocks(state.count) as usize;
             areas.stash[after * BLOCK..][..n * BLOCK].copy_from_slice(&areas.work[..n * BLOCK]);
-            state.hold(name, n);
+            state.hold(hash, n);
         }
     }
     // It is written, or it was finished before.
@@ -196,8 +196,8 @@ fn filled(state: &mut State) -> Ran {
 
 /// One stretch of the younger stashes, no longer than the gap, goes down by the gap; with the last one, or where there is none, the stash is
 /// dropped.
-fn run_free(stash: &mut [u8], state: &mut State, name: &Hash) -> Result<Ran, usize> {
-    let j = state.find(name).ok_or(10usize)?;
+fn run_free(stash: &mut [u8], state: &mut State, hash: &Hash) -> Result<Ran, usize> {
+    let j = state.find(hash).ok_or(10usize)?;
     let gap = state.sizes[j];
     let end = state.blocks(state.count) as usize;
     let to = state.blocks(j) as usize + state.stretches * gap;
@@ -239,18 +239,9 @@ fn run_new(list: &[u8], image: &mut [u8], piece: &[u8], state: &mut State, taken
     true
 }
 
-/// Whether there is a hash, and these bytes have another.
-fn differs(bytes: &[u8], hash: &Option<Hash>) -> bool {
-    match hash {
-        Some(hash) => digest(bytes) != *hash,
-        None => false,
-    }
-}
-
 /// Whether the target has this hash already, so that its line has nothing left to do. It is hashed where it lies, range by range in the written
-/// order. A line without a hash is never finished before it ran.
-fn holds(list: &[u8], image: &[u8], target: &Set, hash: &Option<Hash>) -> bool {
-    let Some(hash) = hash else { return false };
+/// order.
+fn holds(list: &[u8], image: &[u8], target: &Set, hash: &Hash) -> bool {
     let mut sha1 = Sha1::new();
     for (start, end) in target.pairs(list) {
         sha1.add(&image[start * BLOCK..end * BLOCK]);
@@ -265,7 +256,7 @@ fn spread(list: &[u8], image: &mut [u8], area: &[u8], target: &Set) {
     }
 }
 
-/// Puts a source together in the work area; 16 where it has a hash and it is another.
+/// Puts a source together in the work area; 16 where it does not have its hash.
 fn gather(list: &[u8], areas: &mut Areas, state: &State, line: &Move) -> Result<(), usize> {
     if let Some(source) = line.source {
         match line.places {
@@ -281,15 +272,15 @@ fn gather(list: &[u8], areas: &mut Areas, state: &State, line: &Move) -> Result<
             }
         }
     }
-    for (name, places) in line.parts(list) {
-        if let Some(k) = state.find(&name) {
+    for (hash, places) in line.parts(list) {
+        if let Some(k) = state.find(&hash) {
             let from = state.blocks(k) as usize;
             for (j, place) in places.each(list).enumerate() {
                 areas.work[place * BLOCK..][..BLOCK].copy_from_slice(&areas.stash[(from + j) * BLOCK..][..BLOCK]);
             }
         }
     }
-    if differs(&areas.work[..line.n as usize * BLOCK], &line.hash) {
+    if digest(&areas.work[..line.n as usize * BLOCK]) != line.hash {
         return Err(16);
     }
     Ok(())

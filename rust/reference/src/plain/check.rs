@@ -1,6 +1,6 @@
 //! What refuses a line.
 
-use super::command::{Bsdiff, Command, Move, Stash};
+use super::command::{Bsdiff, Command, Move};
 use super::text::Set;
 use super::Header;
 use crate::{Lengths, State, BLOCK, MOST_AREA};
@@ -34,19 +34,19 @@ pub(super) fn check(list: &[u8], header: &Header, lengths: &Lengths, held: &Stat
                 return Err(8);
             }
         }
-        Command::Free(name) => {
-            if held.find(name).is_none() {
+        Command::Free(hash) => {
+            if held.find(hash).is_none() {
                 return Err(10);
             }
         }
-        Command::Stash(Stash { name, source, .. }) => {
+        Command::Stash(hash, source) => {
             if source.end > image {
                 return Err(8);
             }
             if source.blocks > work {
                 return Err(9);
             }
-            if held.find(name).is_some() {
+            if held.find(hash).is_some() {
                 return Err(13);
             }
             if held.count as u64 + 1 > header.stashes || held.blocks(held.count) + source.blocks > header.blocks {
@@ -76,8 +76,8 @@ fn check_source(list: &[u8], rooms: (u64, u64, u64), held: &State, marks: &mut M
     }
     let mut differ = false;
     let mut places = 0u64;
-    for (name, set) in line.parts(list) {
-        let k = held.find(&name).ok_or(10usize)?;
+    for (hash, set) in line.parts(list) {
+        let k = held.find(&hash).ok_or(10usize)?;
         differ |= held.sizes[k] as u64 != set.blocks;
         places += set.blocks;
     }

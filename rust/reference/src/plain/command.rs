@@ -4,11 +4,10 @@ use super::text::{Reader, Set};
 use crate::Hash;
 
 /// A `move` as written, or what a `bsdiff` has of one: `source` in forms one and three, `places` in form three, `parts` P's from `first` in
-/// forms two and three. Only version 3 has a hash; in version 1 N is the size of S.
+/// forms two and three.
 #[derive(Clone, Copy)]
 pub(super) struct Move {
-    version: u64,
-    pub(super) hash: Option<Hash>,
+    pub(super) hash: Hash,
     pub(super) target: Set,
     pub(super) n: u64,
     pub(super) source: Option<Set>,
@@ -17,20 +16,13 @@ pub(super) struct Move {
     pub(super) parts: usize,
 }
 
-/// A `bsdiff`: so many bytes of the patch data, from there on, turn the source into a target, in version 3 of this hash.
+/// A `bsdiff`: so many bytes of the patch data, from there on, turn the source into a target of this hash.
 #[derive(Clone, Copy)]
 pub(super) struct Bsdiff {
     pub(super) from: u64,
     pub(super) bytes: u64,
-    pub(super) result: Option<Hash>,
+    pub(super) result: Hash,
     pub(super) line: Move,
-}
-
-/// A `stash`: under which name, what the source must hash to, if anything, and the source.
-pub(super) struct Stash {
-    pub(super) name: Hash,
-    pub(super) hash: Option<Hash>,
-    pub(super) source: Set,
 }
 
 pub(super) enum Command {
@@ -39,7 +31,7 @@ pub(super) enum Command {
     New(Set),
     Move(Move),
     Bsdiff(Bsdiff),
-    Stash(Stash),
+    Stash(Hash, Set),
     Free(Hash),
 }
 
@@ -63,7 +55,7 @@ impl Iterator for Parts<'_> {
 
 impl Move {
     pub(super) fn parts<'a>(&self, text: &'a [u8]) -> impl Iterator<Item = (Hash, Set)> + 'a {
-        Parts { reader: Reader { text, at: self.first, version: self.version, least: 0 }, left: self.parts }
+        Parts { reader: Reader { text, at: self.first, least: 0 }, left: self.parts }
     }
 }
 
@@ -75,10 +67,10 @@ fn is_imgdiff(text: &[u8]) -> bool {
     }
 }
 
-/// The command line of this version at `at`, each of its ranges of so many blocks at least, and where the next line starts; or 6 and the byte of
-/// the line's first fault, or 7.
-pub(super) fn decode(list: &[u8], at: usize, version: u64, least: u64) -> Result<(Command, usize), (usize, usize)> {
-    let mut reader = Reader { text: list, at, version, least };
+/// The command line at `at`, each of its ranges of so many blocks at least, and where the next line starts; or 6 and the byte of the line's
+/// first fault, or 7.
+pub(super) fn decode(list: &[u8], at: usize, least: u64) -> Result<(Command, usize), (usize, usize)> {
+    let mut reader = Reader { text: list, at, least };
     match command(&mut reader) {
         Some(command) => Ok((command, reader.at)),
         None if is_imgdiff(list.get(at..).unwrap_or_default()) => Err((7, 0)),
@@ -86,7 +78,7 @@ pub(super) fn decode(list: &[u8], at: usize, version: u64, least: u64) -> Result
     }
 }
 
-/// No two words start alike. Version 1 has no stashes.
+/// No two words start alike.
 fn command(reader: &mut Reader) -> Option<Command> {
     let command = match reader.peek()? {
         b'z' => {
@@ -103,23 +95,22 @@ fn command(reader: &mut Reader) -> Option<Command> {
         }
         b'm' => {
             reader.bytes(b"move ")?;
-            let hash = hash_before(reader)?;
+            let hash = reader.hash()?;
             Command::Move(move_line(reader, hash)?)
         }
         b'b' => {
             reader.bytes(b"bsdiff ")?;
             Command::Bsdiff(bsdiff_line(reader)?)
         }
-        b's' if reader.version != 1 => {
+        b's' => {
             reader.bytes(b"stash ")?;
-            let name = reader.name()?;
+            let hash = reader.hash()?;
             reader.byte(b' ')?;
-            let hash = if reader.version == 3 { Some(name) } else { None };
-            Command::Stash(Stash { name, hash, source: reader.set()? })
+            Command::Stash(hash, reader.set()?)
         }
-        b'f' if reader.version != 1 => {
+        b'f' => {
             reader.bytes(b"free ")?;
-            Command::Free(reader.name()?)
+            Command::Free(reader.hash()?)
         }
         _ => return None,
     };
@@ -133,35 +124,20 @@ fn bsdiff_line(reader: &mut Reader) -> Option<Bsdiff> {
     reader.byte(b' ')?;
     let bytes = reader.number()?;
     reader.byte(b' ')?;
-    let hash = hash_before(reader)?;
-    let result = hash_before(reader)?;
+    let hash = reader.hash()?;
+    reader.byte(b' ')?;
+    let result = reader.hash()?;
     Some(Bsdiff { from, bytes, result, line: move_line(reader, hash)? })
 }
 
-/// A hash and the space behind it, in version 3.
-fn hash_before(reader: &mut Reader) -> Option<Option<Hash>> {
-    if reader.version != 3 {
-        return Some(None);
-    }
-    let hash = reader.hash()?;
-    reader.byte(b' ')?;
-    Some(Some(hash))
-}
-
 /// What follows the hashes of a `move` or a `bsdiff`, up to the LF.
-fn move_line(reader: &mut Reader, hash: Option<Hash>) -> Option<Move> {
-    let version = reader.version;
-    if version == 1 {
-        let source = reader.set()?;
-        reader.byte(b' ')?;
-        let target = reader.set()?;
-        return Some(Move { version, hash, target, n: source.blocks, source: Some(source), places: None, first: 0, parts: 0 });
-    }
+fn move_line(reader: &mut Reader, hash: Hash) -> Option<Move> {
+    reader.byte(b' ')?;
     let target = reader.set()?;
     reader.byte(b' ')?;
     let n = reader.number()?;
     reader.byte(b' ')?;
-    let mut line = Move { version, hash, target, n, source: None, places: None, first: 0, parts: 0 };
+    let mut line = Move { hash, target, n, source: None, places: None, first: 0, parts: 0 };
     if reader.peek() == Some(b'-') {
         reader.at += 1;
     } else {

@@ -11,11 +11,6 @@ impl State {
         &self.hashes[20 * k..20 * k + 20]
     }
 
-    /// Whether this hash is one that a number of version 2 is held as.
-    pub(super) fn is_number(&self, k: usize) -> bool {
-        self.hash(k)[..16] == [0; 16]
-    }
-
     /// Which of the held stashes has this hash.
     pub(super) fn find(&self, hash: &Hash) -> Option<usize> {
         (0..self.held()).find(|k| self.hash(*k) == hash)

@@ -13,8 +13,6 @@ pub(super) const LEAST: u64 = 1;
 pub(super) struct Reader<'a> {
     pub(super) text: &'a [u8],
     pub(super) at: usize,
-    /// The list's, which says what stashes are called; 0 where none is named.
-    pub(super) version: u64,
     /// The fewest blocks of a range; 0 where there is none to read, or where it was read before.
     pub(super) least: u64,
 }
@@ -108,20 +106,6 @@ impl<'a> Reader<'a> {
         Some(hash)
     }
 
-    /// What a stash is called: a hash, or in version 2 a number, which is held as a hash that ends in it.
-    pub(super) fn name(&mut self) -> Option<Hash> {
-        if self.version != 2 {
-            return self.hash();
-        }
-        let mut name = [0u8; 20];
-        let mut rest = self.number()?;
-        for byte in name.iter_mut().rev() {
-            *byte = (rest % 256) as u8;
-            rest /= 256;
-        }
-        Some(name)
-    }
-
     /// A count, even and at least 2, then that many numbers; each pair is a range of `least` blocks or more.
     pub(super) fn set(&mut self) -> Option<Set> {
         let count = self.count()?;
@@ -161,11 +145,11 @@ impl<'a> Reader<'a> {
         }
     }
 
-    /// One P: a stash, a colon and its places.
+    /// One `H:L`.
     pub(super) fn part(&mut self) -> Option<(Hash, Set)> {
-        let name = self.name()?;
+        let hash = self.hash()?;
         self.byte(b':')?;
-        Some((name, self.set()?))
+        Some((hash, self.set()?))
     }
 }
 
@@ -206,7 +190,7 @@ impl Iterator for Pairs<'_> {
 
 impl Set {
     pub(super) fn pairs<'a>(&self, text: &'a [u8]) -> impl Iterator<Item = (usize, usize)> + 'a {
-        Pairs { reader: Reader { text, at: self.first, version: 0, least: 0 }, left: self.pairs }
+        Pairs { reader: Reader { text, at: self.first, least: 0 }, left: self.pairs }
     }
 
     /// The block numbers in the written order.

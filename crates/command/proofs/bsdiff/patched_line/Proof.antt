@@ -1,7 +1,6 @@
--- `command::bsdiff::patched_line` meets its contract: what was read picks the case of `patched_line`. Assumes nothing.
+-- `command::bsdiff::patched_line` meets its contract: `patched_line` is what the calls give, one after the other. Assumes nothing.
 use borrow.Author.Rules.{rules}
 use Rattle.command.specs.Commands.{patched_line}
-use Rattle.command.proofs.ReadLaws.{reading}
 use Rattle.command.proofs.bsdiff.patched_line.Statement.{statement}
 use Rattle.command.proofs.bsdiff.patched_line.Tie as tie
 
@@ -11,9 +10,5 @@ patched-line-spec =
     tie.close
     (tie.spec
     (λ c κs. search rules)
-    (λ c. search rules)
     (λ c κs. search rules)
-    (λ c. search rules)
-    (λ c κs. search rules)
-    (λ c. search reading)
-    (λ c. search reading))
+    (λ c. rw (← c.before.before.read-hash-field.ensures, c.after-source-hash.ensures)))

@@ -9,7 +9,6 @@ use lib.ListN.{length}
 use borrow.Author.Rules.{rules}
 use Rattle.ranges.specs.Ranges.{least_blocks}
 use Rattle.ranges.specs.declared.RangeSet.{RangeSet}
-use Rattle.command.specs.declared.version.Names.{Names}
 use Rattle.command.specs.declared.parts.Part.{Part}
 use Rattle.command.specs.declared.parts.PartRead.TheVariants as read
 use Rattle.command.specs.declared.parts.PartsRead.TheVariants as parts
@@ -19,38 +18,38 @@ use Rattle.command.proofs.parts.check_parts.Statement.{statement}
 use Rattle.command.proofs.parts.check_parts.Tie as tie
 
 -- the Ps from `at` on, of which at most n are left, give the answer
-record Checking (names : Names) (l : List ℕ) (first at : ℕ) : Type 0 where
+record Checking (l : List ℕ) (first at : ℕ) : Type 0 where
   n : ℕ
   enough : length l ≤ n + at
-  same : parts_in least_blocks names (suc n) l first at ≡ parts_at least_blocks names l first
+  same : parts_in least_blocks (suc n) l first at ≡ parts_at least_blocks l first
 
-module _ (names : Names) (l : List ℕ) (first at : ℕ) (p : Part) (k : Checking names l first at) (is : p ≡ part_at least_blocks names l at) where
-  checking_more : {places : RangeSet} {next : ℕ} → p.read ≡ read.More places next → Checking names l first next
+module _ (l : List ℕ) (first at : ℕ) (p : Part) (k : Checking l first at) (is : p ≡ part_at least_blocks l at) where
+  checking_more : {places : RangeSet} {next : ℕ} → p.read ≡ read.More places next → Checking l first next
   unfolding parts_in
   checking_more {places} {next} f =
-      let e = part_read least_blocks names l at p is f in
-      let h = part_next least_blocks names l at e in
+      let e = part_read least_blocks l at p is f in
+      let h = part_next least_blocks l at e in
       let some : suc (k.n - 1) ≡ k.n = omega (arith, k.enough) in
-      let here : parts_in least_blocks names k.n l first next ≡ parts_in least_blocks names (suc k.n) l first at = rw e in
+      let here : parts_in least_blocks k.n l first next ≡ parts_in least_blocks (suc k.n) l first at = rw e in
       record {
         n = k.n - 1;
         enough = omega (arith, k.enough);
-        same = ap (λ (n : ℕ). parts_in least_blocks names n l first next) some ∙ here ∙ k.same;
+        same = ap (λ (n : ℕ). parts_in least_blocks n l first next) some ∙ here ∙ k.same;
       }
 
-  checking_last : {places : RangeSet} {next : ℕ} → p.read ≡ read.Last places next → parts.Good first ≡ parts_at least_blocks names l first
+  checking_last : {places : RangeSet} {next : ℕ} → p.read ≡ read.Last places next → parts.Good first ≡ parts_at least_blocks l first
   unfolding parts_in
-  checking_last f = rw (part_read least_blocks names l at p is f) at k.same
+  checking_last f = rw (part_read least_blocks l at p is f) at k.same
 
-  checking_bad : {q : ℕ} → p.read ≡ read.Bad q → parts.Bad q ≡ parts_at least_blocks names l first
+  checking_bad : {q : ℕ} → p.read ≡ read.Bad q → parts.Bad q ≡ parts_at least_blocks l first
   unfolding parts_in
-  checking_bad f = rw (part_read least_blocks names l at p is f) at k.same
+  checking_bad f = rw (part_read least_blocks l at p is f) at k.same
 
 abbrev invariant_loop : tie.invariant-loop
-invariant_loop l first names at₀ at = Checking names l first at
+invariant_loop l first at₀ at = Checking l first at
 
 abbrev decreases_loop : tie.decreases-loop
-decreases_loop l first names at₀ at = length l - at
+decreases_loop l first at₀ at = length l - at
 
 loop-holds : tie.Need-loop-init invariant_loop decreases_loop
 unfolding parts_at
@@ -64,7 +63,7 @@ returns-2 c = search checking_last
 
 loop-less : tie.Need-loop-smaller invariant_loop decreases_loop
 loop-less c =
-    let h = part_next _ _ _ _ (part_read _ _ _ _ _ c.before.before.before.read-part.ensures c.before.read2.given.1) in
+    let h = part_next _ _ _ (part_read _ _ _ _ c.before.before.before.read-part.ensures c.before.read2.given.1) in
     omega arith
 
 loop-again : tie.Need-loop-preserved invariant_loop decreases_loop

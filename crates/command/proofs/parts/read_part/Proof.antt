@@ -4,21 +4,20 @@ use mathlib.Core.Path.{◌≡◌}
 use Prim.Native.Nat.{ℕ}
 use mathlib.Core.List.{List}
 use Rattle.text.specs.declared.expected.Expected.TheVariants as expected
+use Rattle.text.specs.Hash.{hash_at}
 use Rattle.text.specs.declared.hash.Hash.{Hash}
 use Rattle.command.specs.declared.parts.PartRead.{PartRead}
 use Rattle.command.specs.declared.parts.PartRead.TheVariants as read
-use Rattle.command.specs.declared.version.Names.{Names}
-use Rattle.command.specs.Fields.{name_at}
 use Rattle.command.specs.Parts.{places_from, part_at}
 use Rattle.command.proofs.parts.read_part.Statement.{statement}
 use Rattle.command.proofs.parts.read_part.Tie as tie
 
-module _ (least : ℕ) (names : Names) (l : List ℕ) (at : ℕ) {h : Hash} (hash : h ≡ name_at names l at) where
-  hash-fault : {p : ℕ} → h.read ≡ expected.Bad p → record { read = read.Bad p; hash = h.bytes } ≡ part_at least names l at
+module _ (least : ℕ) (l : List ℕ) (at : ℕ) {h : Hash} (hash : h ≡ hash_at l at) where
+  hash-fault : {p : ℕ} → h.read ≡ expected.Bad p → record { read = read.Bad p; hash = h.bytes } ≡ part_at least l at
   unfolding part_at
   hash-fault e = rw (← hash, e)
 
-  hash-read : {i : ℕ} {r : PartRead} → h.read ≡ expected.Past i → r ≡ places_from least l i → record { read = r; hash = h.bytes } ≡ part_at least names l at
+  hash-read : {i : ℕ} {r : PartRead} → h.read ≡ expected.Past i → r ≡ places_from least l i → record { read = r; hash = h.bytes } ≡ part_at least l at
   unfolding part_at
   hash-read e k = rw (← hash, e, k)
 

@@ -16,7 +16,6 @@ read-length-spec =
     (λ c κs. search rules)
     (λ c. search rules)
     (λ c. search rules)
-    (λ c. search rules)
     (λ c κs. search rules)
     (λ c. search reading)
     (λ c. search reading)

@@ -4,19 +4,18 @@ use mathlib.Core.Path.{◌≡◌}
 use Prim.Native.Nat.{ℕ}
 use mathlib.Core.List.{List, [], ◌∷◌}
 use Rattle.command.specs.declared.word.Word.{Word}
-use Rattle.command.specs.declared.word.Word.TheVariants.{Named, Imgdiff}
-use Rattle.command.specs.declared.word.NameWord.TheVariants.{Free}
+use Rattle.command.specs.declared.word.Word.TheVariants.{Bsdiff, Imgdiff}
 use Rattle.command.specs.Words.{word_in, word_of}
 use Rattle.text.proofs.ChoiceLaws.{pick_true, pick_false}
 use Rattle.command.proofs.word.word_of.Statement.{statement}
 use Rattle.command.proofs.word.word_of.Tie as tie
 
--- the text, from the place past `stash`
+-- the text, from the place past `free`
 abbrev text : tie.Else6 → List ℕ
 text c = c.before.before.before.before.before.before.before.before.before.before.before.before.before.before.before.before.before.before.before.args.l.now
 
--- past `stash` the other words are left
-unsupported : (c : tie.Else6) {w : Word} → w ≡ word_in (Named Free ∷ Imgdiff ∷ []) (text c) → w ≡ word_of (text c)
+-- past `free` the other words are left
+unsupported : (c : tie.Else6) {w : Word} → w ≡ word_in (Bsdiff ∷ Imgdiff ∷ []) (text c) → w ≡ word_of (text c)
 unfolding word_in
 unsupported c h = search (pick_false, h) depth 10
 

@@ -1,4 +1,4 @@
--- `command::sourced::read_digest` meets its contract: what was read picks the case of `digest_from`. Assumes nothing.
+-- `command::bsdiff::read_digest` meets its contract: what was read picks the case of `digest_from`. Assumes nothing.
 use borrow.Author.Rules.{rules}
 use mathlib.Core.Path.{◌≡◌}
 use Prim.Native.Nat.{ℕ}
@@ -10,17 +10,17 @@ use Rattle.command.specs.declared.sourced.Purpose.TheVariants as purpose
 use Rattle.command.specs.declared.Command.{Command}
 use Rattle.command.specs.declared.Command.TheVariants.{Bad}
 use Rattle.command.specs.Fields.{hash_field}
-use Rattle.command.specs.declared.version.Names.TheVariants.{Hashes}
-use Rattle.command.specs.Commands.{target_from, digest_from}
-use Rattle.command.proofs.sourced.read_digest.Statement.{statement}
-use Rattle.command.proofs.sourced.read_digest.Tie as tie
+use Rattle.command.specs.Commands.{target_from}
+use Rattle.command.specs.Commands.{digest_from}
+use Rattle.command.proofs.bsdiff.read_digest.Statement.{statement}
+use Rattle.command.proofs.bsdiff.read_digest.Tie as tie
 
 module _ (l : List ℕ) (at : ℕ) {h : Hash} (hash : h ≡ hash_field l at) where
   hash-fault : {p : ℕ} → h.read ≡ expected.Bad p → Bad p ≡ digest_from least_blocks l at
   unfolding digest_from
   hash-fault e = rw (← hash, e)
 
-  hash-read : {i : ℕ} {c : Command} → h.read ≡ expected.Past i → c ≡ target_from least_blocks Hashes l purpose.Bsdiff i → c ≡ digest_from least_blocks l at
+  hash-read : {i : ℕ} {c : Command} → h.read ≡ expected.Past i → c ≡ target_from least_blocks l purpose.Bsdiff i → c ≡ digest_from least_blocks l at
   unfolding digest_from
   hash-read e k = rw (← hash, e) k
 

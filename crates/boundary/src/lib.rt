@@ -1,1 +1,2 @@
 // What calls through the exports come to, one after the other: definitions and laws only.
+#![tactic(auto)]

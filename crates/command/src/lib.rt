@@ -1,4 +1,6 @@
 // A line of a transfer list, read as a command.
+#![tactic(auto)]
+
 ghost use Rattle.std.specs.Prelude.{◌≡◌};
 ghost use Rattle.text.specs.Expected.{on_expected};
 ghost use Rattle.ranges.specs.Ranges.{least_blocks, on_ranges};

@@ -1,4 +1,6 @@
 // Bytes copied over an area.
+#![tactic(auto)]
+
 ghost use Rattle.std.specs.Prelude.{◌≡◌, min};
 ghost use Rattle.copy.specs.Over.{front};
 

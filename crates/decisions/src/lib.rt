@@ -1,4 +1,6 @@
 // What is decided about the files of an update.
+#![tactic(auto)]
+
 ghost use Rattle.std.specs.Prelude.{◌≡◌};
 ghost use Rattle.decisions.specs.Program.{is_image, size_refusal, patch_length, opened_with, is_stop, calls_on};
 

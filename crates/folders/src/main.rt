@@ -1,5 +1,7 @@
 // Runs a program in each of the folders that standard input names, in lines `update NAME` and `load NAME`, and prints for each folder its
 // name, the answer line and the SHA-1 of the image file after it.
+#![tactic(auto)]
+
 ghost use Rattle.std.specs.Prelude.{◌≤◌, length};
 ghost use Rattle.io.specs.Counts.{IsPrefixLen};
 

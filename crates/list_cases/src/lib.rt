@@ -20,6 +20,8 @@
 //   damage                             the saved form with one bit of each byte altered in turn, a byte short, and a byte too long: how many are
 //                                      refused, how many are the saved form of the state that is read, and how many are neither
 // The new data is the made-up bytes of `records`.
+#![tactic(auto)]
+
 ghost use Rattle.std.specs.Prelude.{◌≤◌};
 
 use crate::areas::{lend_area, lend_list};

@@ -1,4 +1,6 @@
 // Numbers of two, four and eight bytes, the lowest byte first.
+#![tactic(auto)]
+
 ghost use Rattle.std.specs.Prelude.{◌≡◌};
 ghost use Rattle.little_endian.specs.LittleEndian.{two, two_at, four_at, eight_at};
 

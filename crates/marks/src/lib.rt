@@ -1,5 +1,7 @@
 // The marks of a source's places, a bit each: whether the place is taken. Place p is bit p / MARK_BYTES of byte p % MARK_BYTES, so the
 // places of a short source have a byte each.
+#![tactic(auto)]
+
 ghost use Rattle.std.specs.Prelude.{◌≡◌, min, length};
 ghost use Rattle.marks.specs.Marks.{mark_bytes, is_free, taking, cleared};
 

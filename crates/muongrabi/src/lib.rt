@@ -1,5 +1,7 @@
 // The updater and the reader of sparse images for C and Rust: numbers, slices and arrays, which cross alike on every 64-bit little-endian
 // machine. A state crosses as its saved form, and is changed where that lies.
+#![tactic(auto)]
+
 ghost use Rattle.std.specs.Prelude.{◌≡◌, length};
 ghost use Rattle.sha1.specs.Sha1.{sha1};
 ghost use Rattle.state.specs.States.{state_with};

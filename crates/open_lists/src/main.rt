@@ -7,6 +7,8 @@
 //   +TEXT                                  bytes of the list, with no LF
 //   repeat N |TEXT                         that, N times
 //   open                                   opens it
+#![tactic(auto)]
+
 use libc::{STDIN_FILENO, STDOUT_FILENO};
 use records::buffers::{part, put};
 use records::fields::{number, rest, which};

@@ -2,6 +2,8 @@
 // and the image is written back. `load` does the same with a sparse file.
 //
 // No contract can speak of a file. What is decided about files is in the crate `decisions`, where each function has its equation.
+#![tactic(auto)]
+
 ghost use Rattle.std.specs.Prelude.{◌≤◌, length};
 ghost use Rattle.io.specs.Counts.{IsPrefixLen};
 ghost use Rattle.decisions.specs.Program.{piece_bytes};

@@ -1,4 +1,6 @@
 // Patches in bsdiff's way: records that make a result of a source.
+#![tactic(auto)]
+
 ghost use Rattle.std.specs.Prelude.{◌≡◌, length};
 ghost use Rattle.text.specs.Choice.{pick};
 ghost use Rattle.patch.specs.Patch.{is_patch, patched_by};

@@ -1,4 +1,6 @@
 // States that a list can have with its areas and its patch data.
+#![tactic(auto)]
+
 ghost use Rattle.std.specs.Prelude.{◌≡◌, ◌-◌, ◌<◌};
 ghost use Rattle.ranges.specs.Ranges.{least_blocks};
 ghost use Rattle.state.specs.States.{state_with};

@@ -1,4 +1,6 @@
 // Range sets.
+#![tactic(auto)]
+
 ghost use Rattle.std.specs.Prelude.{◌≡◌};
 ghost use Rattle.ranges.specs.Ranges.{item_at, pair_at, ranges_at};
 

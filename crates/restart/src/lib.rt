@@ -1,1 +1,2 @@
 // What a run writes, and finishing after a cut: definitions and laws only.
+#![tactic(auto)]

@@ -1,4 +1,6 @@
 // One line checked against what is held.
+#![tactic(auto)]
+
 ghost use Rattle.std.specs.Prelude.{◌≡◌, List, ℕ};
 ghost use Rattle.ranges.specs.Ranges.{least_blocks};
 ghost use Rattle.state.specs.Stashes.{table_at, held_in};

@@ -1,4 +1,6 @@
 // Runs the lists that standard input describes.
+#![tactic(auto)]
+
 fn main() {
     list_cases::run_cases();
 }

@@ -1,4 +1,6 @@
 // The saved form of a state, and a state read back from bytes. docs/SAVED-FORM.md has the layout.
+#![tactic(auto)]
+
 ghost use Rattle.std.specs.Prelude.{◌≡◌};
 ghost use Rattle.state.specs.States.{state_with};
 ghost use Rattle.saved.specs.Saved.{FormOf};

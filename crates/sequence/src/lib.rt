@@ -1,4 +1,6 @@
 // An opening and the calls over new data that is cut into pieces.
+#![tactic(auto)]
+
 ghost use Rattle.std.specs.Prelude.{◌≡◌, ◌+◌, ◌-◌, ◌≤◌, min};
 ghost use Rattle.state.specs.States.{state_with};
 ghost use Rattle.updater.specs.Areas.{areas_of};

@@ -1,5 +1,7 @@
 // SHA-1 (FIPS 180-4): `digest` of a whole message, and `start`, `absorb` and `finish` of one that
 // comes in pieces of whole 64-byte blocks. No public function has a `requires`.
+#![tactic(auto)]
+
 mod block;
 mod hash_value;
 mod padding;

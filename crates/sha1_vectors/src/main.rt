@@ -7,6 +7,8 @@
 //   digest                 prints the digest of the message
 //   absorb N LENGTH        takes in the next N pieces of the message, each of LENGTH bytes
 //   finish                 prints the digest of what is taken in
+#![tactic(auto)]
+
 use libc::{STDIN_FILENO, STDOUT_FILENO};
 use records::buffers::{fill_pattern, part, put};
 use records::fields::{number, rest, which};

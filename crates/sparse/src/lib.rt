@@ -1,4 +1,6 @@
 // Sparse images: a file of chunks is read over a lent image.
+#![tactic(auto)]
+
 ghost use Rattle.std.specs.Prelude.{◌≡◌, length};
 ghost use Rattle.sparse.specs.Loading.{load_refusal, loaded_image};
 

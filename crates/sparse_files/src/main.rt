@@ -14,6 +14,8 @@
 //   load                     reads it: `loaded` and the SHA-1 of the image, or `refused`, the number, and whether the image was kept
 //   check BYTES              the number for an image of that many bytes, which is not lent
 //   every                    reads each part of the file from its start, and at last the whole: the numbers, and from which length on
+#![tactic(auto)]
+
 ghost use Rattle.std.specs.Prelude.{◌≤◌};
 
 use libc::{STDIN_FILENO, STDOUT_FILENO};

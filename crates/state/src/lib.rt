@@ -1,4 +1,6 @@
 // What a run keeps between calls.
+#![tactic(auto)]
+
 use crate::limits::{MOST_STASHES, TABLE_BYTES};
 
 pub mod limits;

@@ -1,4 +1,6 @@
 // Opening a transfer list: the whole text is checked before anything is run.
+#![tactic(auto)]
+
 ghost use Rattle.std.specs.Prelude.{◌≡◌, [], suc, ◌≤◌, length};
 ghost use Rattle.ranges.specs.Ranges.{least_blocks};
 ghost use Rattle.state.specs.Limits.{most_list_bytes, most_stashes};

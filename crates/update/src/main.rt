@@ -1,4 +1,6 @@
 // Applies the update in the current folder.
+#![tactic(auto)]
+
 fn main() {
     package::update(
         b"system.transfer.list",

@@ -63,9 +63,9 @@ fn fill_move<'a>(
 ) -> usize
     requires keeps { Keeps (held_in (table_at hashes.now sizes.now count)) stash.now }
     requires move_runs { MoveRuns l.now (held_in (table_at hashes.now sizes.now count)) image.now work.old target n source }
-    ensures* { λ r. ⌜ ((result patch : List ℕ) → effect_of (areas_of image.now stash.now work.new result patch) r
+    ensures { (res patch : List ℕ) → effect_of (areas_of image.now stash.now work.new res patch) result
         ≡ move_filled l.now (held_in (table_at hashes.now sizes.now count)) hash n source
-        (areas_of image.now stash.now work.old result patch)) ⌝ }
+        (areas_of image.now stash.now work.old res patch) }
 {
     put_together(image, stash, work, l, hashes, sizes, count, source);
     if has_hash(&*work, n, hash) {
@@ -92,9 +92,9 @@ fn step_move(
 ) -> StepEnd
     requires keeps { Keeps (held_in (table_at hashes.now sizes.now count)) stash.now }
     requires move_runs { MoveRuns l.now (held_in (table_at hashes.now sizes.now count)) image.old work.old target n source }
-    ensures* { λ r. ⌜ ((result patch : List ℕ) → stepped (areas_of image.new stash.now work.new result patch) r
+    ensures { (res patch : List ℕ) → stepped (areas_of image.new stash.now work.new res patch) result
         ≡ fill_step l.now (held_in (table_at hashes.now sizes.now count)) hash (Move target n source) ready
-        (areas_of image.old stash.now work.old result patch)) ⌝ }
+        (areas_of image.old stash.now work.old res patch) }
 {
     if ready != 0 {
         let end = BLOCK_BYTES * n;
@@ -119,9 +119,9 @@ fn fill_stash<'a>(
     hash: [u8; HASH_BYTES],
 ) -> usize
     requires { InImage l.now image.now set × (block_bytes * set.blocks ≤ length work.old) }
-    ensures* { λ r. ⌜ ((result patch : List ℕ) → effect_of (areas_of image.now stash.now work.new result patch) r
+    ensures { (res patch : List ℕ) → effect_of (areas_of image.now stash.now work.new res patch) result
         ≡ stash_filled l.now hash set
-        (areas_of image.now stash.now work.old result patch)) ⌝ }
+        (areas_of image.now stash.now work.old res patch) }
 {
     supply(image, stash, work, l, set);
     if has_hash(&*work, set.blocks, hash) {
@@ -144,9 +144,9 @@ fn step_stash(
     ready: usize,
 ) -> StepEnd
     requires { StashRuns l.now (held_in (table_at hashes.now sizes.now count)) image.now stash.old work.old set }
-    ensures* { λ r. ⌜ ((result patch : List ℕ) → stepped (areas_of image.now stash.new work.new result patch) r
+    ensures { (res patch : List ℕ) → stepped (areas_of image.now stash.new work.new res patch) result
         ≡ fill_step l.now (held_in (table_at hashes.now sizes.now count)) hash (Stash set) ready
-        (areas_of image.now stash.old work.old result patch)) ⌝ }
+        (areas_of image.now stash.old work.old res patch) }
 {
     if ready != 0 {
         let start = BLOCK_BYTES * blocks_before(sizes, count, MOST_STASHES);
@@ -181,9 +181,9 @@ fn step_free(
 ) -> StepEnd
     requires keeps { Keeps (held_in (table_at hashes.now sizes.now count)) stash.old }
     requires hash_value { either (k == 0) (found_stretch (held_in (table_at hashes.now sizes.now count)) k (find_in (held_in (table_at hashes.now sizes.now count)) hash)) ≡ true }
-    ensures* { λ r. ⌜ ((image work result patch : List ℕ) → stepped (areas_of image stash.new work result patch) r
-        ≡ free_step (held_in (table_at hashes.now sizes.now count)) k (areas_of image stash.old work result patch)
-        (find_in (held_in (table_at hashes.now sizes.now count)) hash)) ⌝ }
+    ensures { (image work res patch : List ℕ) → stepped (areas_of image stash.new work res patch) result
+        ≡ free_step (held_in (table_at hashes.now sizes.now count)) k (areas_of image stash.old work res patch)
+        (find_in (held_in (table_at hashes.now sizes.now count)) hash) }
 {
     if let Found::At(j) = find_stash(hashes, count, hash) {
         let start = blocks_before(sizes, count, j);

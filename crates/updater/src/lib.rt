@@ -1,4 +1,6 @@
 // Running an opened list over a lent image.
+#![tactic(auto)]
+
 ghost use Rattle.std.specs.Prelude.{◌≡◌};
 ghost use Rattle.ranges.specs.Ranges.{least_blocks};
 ghost use Rattle.state.specs.States.{state_with};

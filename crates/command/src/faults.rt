@@ -5,7 +5,7 @@ ghost use Rattle.command.specs.Faults.{fault_of};
 use crate::Command;
 
 // The position of the fault in the line.
-#[derive(Drop)]
+#[derive(Clone, Copy)]
 pub enum Fault {
     At(usize),
     None,

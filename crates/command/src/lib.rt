@@ -28,7 +28,7 @@ pub mod targets;
 pub mod word;
 
 // `Unsupported` is `imgdiff`; `Bad` has the position of the line's fault.
-#[derive(Drop)]
+#[derive(Clone, Copy)]
 pub enum Command {
     Zero(RangeSet),
     Erase(RangeSet),
@@ -50,7 +50,7 @@ pub enum Command {
 }
 
 // A command beside its hash, which is zero where the command has none: the digest that the source must have, and the stash's name.
-#[derive(Drop)]
+#[derive(Clone, Copy)]
 pub struct Line {
     pub command: Command,
     pub hash: [u8; HASH_BYTES],

@@ -8,7 +8,7 @@ use text::expected::{Expected, read_expected};
 use text::hash::{HASH_BYTES, read_hash};
 
 // The places of one stash and the position past what follows them: a space and another `H:L`, or the line's end.
-#[derive(Drop)]
+#[derive(Clone, Copy)]
 pub enum PartRead {
     More(RangeSet, usize),
     Last(RangeSet, usize),
@@ -16,14 +16,14 @@ pub enum PartRead {
 }
 
 // One `H:L`, with its hash beside.
-#[derive(Drop)]
+#[derive(Clone, Copy)]
 pub struct Part {
     pub read: PartRead,
     pub hash: [u8; HASH_BYTES],
 }
 
 // Where the first `H:L` stands, or the position of the fault.
-#[derive(Drop)]
+#[derive(Clone, Copy)]
 pub enum PartsRead {
     Good(usize),
     Bad(usize),

@@ -8,7 +8,7 @@ use text::hash::HASH_BYTES;
 use text::number::Number;
 
 // Where the patch starts in the patch data, O, and its bytes, B; and where the two hashes stand in the line, with the space before them.
-#[derive(Drop)]
+#[derive(Clone, Copy)]
 pub struct Patching {
     pub start: u32,
     pub length: u32,

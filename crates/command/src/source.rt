@@ -9,7 +9,7 @@ use ranges::{LEAST_BLOCKS, RangeSet, Ranges, read_ranges};
 use text::expected::{Expected, read_expected};
 
 // The three forms: `S`; `- P ..`; `S L P ..`. `first` is where the first P stands.
-#[derive(Drop)]
+#[derive(Clone, Copy)]
 pub enum Source {
     Blocks(RangeSet),
     Stashes(usize),
@@ -20,7 +20,7 @@ pub enum Source {
     },
 }
 
-#[derive(Drop)]
+#[derive(Clone, Copy)]
 pub enum SourceRead {
     Good(Source),
     Bad(usize),

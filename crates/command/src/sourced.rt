@@ -10,7 +10,7 @@ use ranges::{RangeSet, Ranges};
 use text::number::Number;
 
 // What a source is put together for.
-#[derive(Drop)]
+#[derive(Clone, Copy)]
 pub enum Purpose {
     Move,
     Bsdiff,

@@ -6,7 +6,7 @@ use crate::Command;
 use ranges::RangeSet;
 
 // The target of a `new`; other commands have none.
-#[derive(Drop)]
+#[derive(Clone, Copy)]
 pub enum NewTarget {
     Set(RangeSet),
     None,

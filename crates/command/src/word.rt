@@ -5,7 +5,7 @@ ghost use Rattle.command.specs.Words.{range_word, hash_word, word_of, shared, wo
 use text::word::first_word_is;
 
 // A word that a range set follows.
-#[derive(Drop)]
+#[derive(Clone, Copy)]
 pub enum RangeWord {
     Zero,
     Erase,
@@ -13,14 +13,14 @@ pub enum RangeWord {
 }
 
 // A word that a hash follows.
-#[derive(Drop)]
+#[derive(Clone, Copy)]
 pub enum HashWord {
     Move,
     Stash,
     Free,
 }
 
-#[derive(Drop)]
+#[derive(Clone, Copy)]
 pub enum Word {
     Ranges(RangeWord),
     Hash(HashWord),

@@ -14,7 +14,7 @@ use updater::Outcome;
 const LINE_BYTES: usize = 71;
 
 // A line at the start of a buffer, with zeros past it.
-#[derive(Drop)]
+#[derive(Clone, Copy)]
 pub struct Line {
     pub bytes: [u8; LINE_BYTES],
     pub length: usize,

@@ -56,7 +56,7 @@ fn read_back(bytes: &[u8]) -> usize {
 }
 
 // How many damaged forms came to each answer of `read_back`.
-#[derive(Drop)]
+#[derive(Clone, Copy)]
 struct Tally {
     refused: usize,
     other: usize,

@@ -35,7 +35,7 @@ const PATCH_ROOM: usize = PATCH_BYTES + 1;
 const PIECE_BYTES: usize = 4096;
 
 // What the calls came to, or that the new data could not be read.
-#[derive(Drop)]
+#[derive(Clone, Copy)]
 enum Ran {
     To(Outcome, u64),
     Failed,

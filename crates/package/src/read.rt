@@ -2,13 +2,13 @@
 ghost use Rattle.package.specs.Fills.{Fills};
 
 // A descriptor, below 0 where the file is absent.
-#[derive(Drop)]
+#[derive(Clone, Copy)]
 pub(crate) enum Opened {
     At(i32),
     Failed,
 }
 
-#[derive(Drop)]
+#[derive(Clone, Copy)]
 pub(crate) enum Loaded {
     Bytes(usize),
     Failed,

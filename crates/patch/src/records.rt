@@ -13,7 +13,7 @@ const RECORD_MARK: u16 = 0x5043;
 
 // Where a record's add bytes start in the patch, where its extra bytes do and where it ends; the position of its first add byte, and the
 // one after it.
-#[derive(Drop)]
+#[derive(Clone, Copy)]
 pub struct Record {
     pub adds: usize,
     pub extras: usize,
@@ -22,7 +22,7 @@ pub struct Record {
     pub next: usize,
 }
 
-#[derive(Drop)]
+#[derive(Clone, Copy)]
 pub enum RecordRead {
     Good(Record),
     Bad,

@@ -18,14 +18,14 @@ pub const LEAST_AGAIN: u32 = 0;
 const LARGEST: u32 = 4294967295;
 
 // One range: the blocks from start up to, not including, end; and the position past it.
-#[derive(Drop)]
+#[derive(Clone, Copy)]
 pub enum Pair {
     Good { start: u32, end: u32, next: usize },
     Bad(usize),
 }
 
 // Where a set stands in the text, how many blocks it has and its largest end.
-#[derive(Drop)]
+#[derive(Clone, Copy)]
 pub struct RangeSet {
     pub at: usize,
     pub blocks: usize,
@@ -33,7 +33,7 @@ pub struct RangeSet {
 }
 
 // A set and the position past it, or the position of the first fault.
-#[derive(Drop)]
+#[derive(Clone, Copy)]
 pub enum Ranges {
     Good(RangeSet, usize),
     Bad(usize),

@@ -6,7 +6,7 @@ use crate::{LEAST_AGAIN, Pair, read_pair};
 use text::number::{Number, read_number};
 
 // What is left of a set: the pairs from `at` on, and the blocks from `block` up to `end` of the range at hand.
-#[derive(Drop)]
+#[derive(Clone, Copy)]
 pub struct Walk {
     pub at: usize,
     pub left: u32,
@@ -14,7 +14,7 @@ pub struct Walk {
     pub end: u32,
 }
 
-#[derive(Drop)]
+#[derive(Clone, Copy)]
 pub enum Step {
     Block(u32, Walk),
     Done,

@@ -23,7 +23,7 @@ mod places;
 
 // The blocks of the image, of the work area and of the result area; the bytes of the patch data; and lines 3 and 4 of the list: the most
 // stashes and the most blocks held at once.
-#[derive(Drop)]
+#[derive(Clone, Copy)]
 pub struct Terms {
     pub image: usize,
     pub work: usize,
@@ -34,7 +34,7 @@ pub struct Terms {
 }
 
 // A line read, and the number it is refused with, 0 for none.
-#[derive(Drop)]
+#[derive(Clone, Copy)]
 pub struct Checked {
     pub line: Line,
     pub refusal: usize,

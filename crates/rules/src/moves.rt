@@ -59,7 +59,7 @@ fn source_over(terms: Terms, source: Source) -> bool
 }
 
 // What the stashes that a source names come to: one is not held, one differs from its L, and all their places together.
-#[derive(Drop)]
+#[derive(Clone, Copy)]
 struct Sums {
     missing: bool,
     differs: bool,

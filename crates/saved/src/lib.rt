@@ -24,14 +24,14 @@ mod write;
 pub const SAVED_BYTES: usize = LENGTHS_AT + MARK_BYTES + WORD_BYTES * LENGTH_COUNT;
 
 // A state read back and number 0, or a refusal's number and no state.
-#[derive(Drop)]
+#[derive(Clone, Copy)]
 pub struct Restored {
     pub number: usize,
     pub state: State,
 }
 
 // The same where the tables of the stashes are lent: all else of the state.
-#[derive(Drop)]
+#[derive(Clone, Copy)]
 pub struct RestoredProgress {
     pub number: usize,
     pub progress: Progress,

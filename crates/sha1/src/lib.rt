@@ -14,7 +14,7 @@ ghost use Rattle.sha1.specs.Sha1.{sha1};
 ghost use Rattle.sha1.specs.Pieces.{started, absorbed, finished};
 
 // A hash value: FIPS's H0 to H4, and its working variables a to e.
-#[derive(Drop)]
+#[derive(Clone, Copy)]
 pub struct HashValue {
     pub a: u32,
     pub b: u32,
@@ -24,7 +24,7 @@ pub struct HashValue {
 }
 
 // What a message's first pieces come to: the hash value, and how many bytes they have, modulo 2^64.
-#[derive(Drop)]
+#[derive(Clone, Copy)]
 pub struct Hasher {
     pub value: HashValue,
     pub count: u64,

@@ -17,7 +17,7 @@ use sha1::Hasher;
 const MESSAGE_ROOM: usize = 1000000;
 
 // The length of the message, how much of it is taken in, and the hasher that took it.
-#[derive(Drop)]
+#[derive(Clone, Copy)]
 struct Vector {
     len: usize,
     taken: usize,

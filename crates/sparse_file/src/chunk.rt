@@ -18,7 +18,7 @@ const CHECKSUM_TYPE: u16 = 0xCAC4;
 // Bytes that a fill repeats.
 const FILL_BYTES: usize = 4;
 
-#[derive(Drop)]
+#[derive(Clone, Copy)]
 pub enum Kind {
     Raw,
     Fill,
@@ -26,7 +26,7 @@ pub enum Kind {
 }
 
 // Which of the image's blocks a chunk has, where its body lies in the file, and where the next chunk does.
-#[derive(Drop)]
+#[derive(Clone, Copy)]
 pub struct Chunk {
     pub kind: Kind,
     pub first: u32,
@@ -36,7 +36,7 @@ pub struct Chunk {
 }
 
 // A chunk, or the number of its refusal.
-#[derive(Drop)]
+#[derive(Clone, Copy)]
 pub enum ChunkRead {
     Good(Chunk),
     Bad(usize),

@@ -28,7 +28,7 @@ const FILE_ROOM: usize = 65536;
 const IMAGE_ROOM: usize = 65536;
 
 // The lengths of the file and of the image.
-#[derive(Drop)]
+#[derive(Clone, Copy)]
 struct Case {
     file: usize,
     image: usize,

@@ -11,7 +11,7 @@ pub mod sums;
 
 // A refusal's number, line, and the byte of the text at which the line is wrong, 0 where none is reported; number 0 is no refusal.
 #[repr(C)]
-#[derive(Drop)]
+#[derive(Clone, Copy)]
 pub struct Refusal {
     pub number: usize,
     pub line: usize,
@@ -20,7 +20,7 @@ pub struct Refusal {
 
 // The lengths in bytes of the list, the image, the three areas and the patch data.
 #[repr(C)]
-#[derive(Drop)]
+#[derive(Clone, Copy)]
 pub struct Lengths {
     pub list: usize,
     pub image: usize,
@@ -32,7 +32,7 @@ pub struct Lengths {
 
 // What a state has besides the tables of its stashes.
 #[repr(C)]
-#[derive(Drop)]
+#[derive(Clone, Copy)]
 pub struct Progress {
     pub count: usize,
     pub line: usize,
@@ -50,7 +50,7 @@ pub struct Progress {
 // area, is ready to be written: 0 says no, every other number yes. The stretches that a `free` has moved. The refusal, if any. The lengths at
 // opening.
 #[repr(C)]
-#[derive(Drop)]
+#[derive(Clone, Copy)]
 pub struct State {
     pub hashes: [u8; TABLE_BYTES],
     pub sizes: [usize; MOST_STASHES],

@@ -11,7 +11,7 @@ use crate::limits::{HASH_BYTES, MOST_STASHES, TABLE_BYTES};
 use crate::sums::bounded_sum;
 
 // Where a stash is among those held.
-#[derive(Drop)]
+#[derive(Clone, Copy)]
 pub enum Found {
     At(usize),
     Nothing,

@@ -3,7 +3,7 @@ ghost use Rattle.std.specs.Prelude.{◌≡◌};
 ghost use Rattle.text.specs.Expected.{expected_at};
 
 // The position past a character, or the position where it is missing.
-#[derive(Drop)]
+#[derive(Clone, Copy)]
 pub enum Expected {
     Past(usize),
     Bad(usize),

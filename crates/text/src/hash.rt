@@ -7,21 +7,21 @@ use crate::expected::Expected;
 // How many bytes a hash has.
 pub const HASH_BYTES: usize = 20;
 
-#[derive(Drop)]
+#[derive(Clone, Copy)]
 enum Digit {
     Value(u8),
     Other,
 }
 
 // A byte of two digits, or the position of the fault.
-#[derive(Drop)]
+#[derive(Clone, Copy)]
 enum Octet {
     Good(u8),
     Bad(usize),
 }
 
 // The bytes, zero where the reading failed, beside how it went.
-#[derive(Drop)]
+#[derive(Clone, Copy)]
 pub struct Hash {
     pub read: Expected,
     pub bytes: [u8; HASH_BYTES],

@@ -3,14 +3,14 @@ ghost use Rattle.std.specs.Prelude.{◌≡◌};
 ghost use Rattle.text.specs.Number.{meets, digits_most, reaches, can_meet, end_of, number_for, number_at};
 
 // A number and the position past it, or the position of the first fault.
-#[derive(Drop)]
+#[derive(Clone, Copy)]
 pub enum Number {
     Good(u32, usize),
     Bad(usize),
 }
 
 // What is asked of a number: nothing; to be the count of a range set; to be at most, or at least, another number.
-#[derive(Drop)]
+#[derive(Clone, Copy)]
 pub enum Need {
     Any,
     Count,

@@ -18,7 +18,7 @@ const VERSION_3: u32 = 3;
 pub(crate) const FIRST_LINE: usize = 5;
 
 // The version, the blocks that line 2 counts, the most stashes and the most blocks held at once, and where the command lines start.
-#[derive(Drop)]
+#[derive(Clone, Copy)]
 pub struct Header {
     pub version: u32,
     pub total: u32,
@@ -28,7 +28,7 @@ pub struct Header {
 }
 
 // A header, or the line that is at fault and the byte of its fault.
-#[derive(Drop)]
+#[derive(Clone, Copy)]
 pub enum HeaderRead {
     Good(Header),
     Bad { line: usize, byte: usize },

@@ -28,7 +28,7 @@ use state::stretches::{is_stretch, stretch_blocks};
 
 // How a step ends: the line is passed, and the run goes on; it is passed, and the run stops for saving; the area is filled and ready to be
 // written, or a stretch is moved and more are to come, and the run stops; or the line is refused with a number.
-#[derive(Drop)]
+#[derive(Clone, Copy)]
 pub enum StepEnd {
     Passed,
     Ended,

@@ -24,7 +24,7 @@ mod sets;
 mod source;
 
 // Done, more new data wanted, stopped for saving, or refused.
-#[derive(Drop)]
+#[derive(Clone, Copy)]
 pub enum Outcome {
     Done,
     More,
@@ -33,7 +33,7 @@ pub enum Outcome {
 }
 
 // What a call gives back.
-#[derive(Drop)]
+#[derive(Clone, Copy)]
 pub struct Called {
     pub state: State,
     pub outcome: Outcome,
@@ -54,7 +54,7 @@ fn outcome_at(list: usize, at: usize, refusal: Refusal) -> Outcome
 }
 
 // What a call gives back besides the tables of the stashes.
-#[derive(Drop)]
+#[derive(Clone, Copy)]
 pub struct Advanced {
     pub progress: Progress,
     pub outcome: Outcome,

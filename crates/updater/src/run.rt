@@ -24,7 +24,7 @@ use std::num::wrapping_add_usize;
 use text::line::line_at;
 
 // Where a run was left, the bytes it took, and whether it stopped for saving.
-#[derive(Drop)]
+#[derive(Clone, Copy)]
 pub(crate) struct Ran {
     pub progress: Progress,
     pub taken: usize,
@@ -125,7 +125,7 @@ fn pass(progress: Progress, count: usize, n: usize) -> Progress
 }
 
 // What a step leaves of a state besides its tables, and whether the run stops for saving.
-#[derive(Drop)]
+#[derive(Clone, Copy)]
 pub(crate) struct Left {
     pub progress: Progress,
     pub stop: bool,

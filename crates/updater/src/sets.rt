@@ -53,13 +53,13 @@ pub(crate) fn write_set(image: &mut [u8], l: &[u8], at: usize, bytes: &[u8])
 }
 
 // The blocks of one side of a copy: those of a set of the line, or a row of consecutive ones.
-#[derive(Drop)]
+#[derive(Clone, Copy)]
 pub enum Blocks {
     Set(Walk),
     Row { next: usize, end: usize },
 }
 
-#[derive(Drop)]
+#[derive(Clone, Copy)]
 pub enum Next {
     Block(usize, Blocks),
     Done,

@@ -137,6 +137,8 @@ def page(text, table, fields):
 
 def main():
     names, fields = definitions()
+    for w in imported():
+        names.pop(w, None)
     table, laws = mapping(names, fields)
     back = {}
     for old, new in table.items():

@@ -9,7 +9,7 @@ use native.Mathlib.Omega.{arith}
 use mathlib.Core.List.{List, []}
 use lib.ListN.{length}
 use lib.Dec.{leb, ltb, eqb}
-use borrow.Author.Tests.{leb-true, leb-false, ltb-true, ltb-false, eqb_true, eqb-false}
+use borrow.Author.Tests.{leb-true, leb-false, ltb-true, ltb-false, eqb-true, eqb-false}
 use Rattle.text.specs.Choice.{pick}
 use Rattle.text.specs.Line.{line_at}
 use Rattle.text.proofs.ChoiceLaws.{bool}
@@ -133,7 +133,7 @@ module _ (s : List ℕ) (terms : Terms) (h : Header) where
 
       go : (t : Bool) → eqb number none ≡ t → pick t rest (refusing_at number line (fault_byte at a.command)) ≡ no_refusal →
           (number ≡ none) × (rest ≡ no_refusal)
-      go true p e = (eqb_true number none p, e)
+      go true p e = (eqb-true number none p, e)
       go false p e = absurd (eqb-false number none p (ap (λ (q : Refusal). q.number) e))
 
   -- one that passes hands on to the lines behind it
@@ -280,7 +280,7 @@ module _ (s : List ℕ) (lengths : Lengths) where
           × (lines_refusal least (suc (length s)) s (terms_of lengths h) h first_line h.first [] 0 ≡ no_refusal)
           × ((other : ℕ) → open_refusal other s lengths ≡ lines_refusal other (suc (length s)) s (terms_of lengths h) h first_line h.first [] 0)
       go true e o =
-          let k = start_none s lengths (eqb_true (start_refusal s lengths).number none e) in
+          let k = start_none s lengths (eqb-true (start_refusal s lengths).number none e) in
           (k.header, k.read, rw k.read at o, λ other. rw (e, k.read))
       go false e o = absurd (eqb-false (start_refusal s lengths).number none e (ap (λ (q : Refusal). q.number) o))
 

@@ -9,7 +9,7 @@ use native.Mathlib.Omega.{arith}
 use mathlib.Core.List.{List, []}
 use lib.ListN.{length, set}
 use lib.Dec.{leb, ltb, eqb}
-use borrow.Author.Tests.{eqb_true}
+use borrow.Author.Tests.{eqb-true}
 use Rattle.text.specs.Choice.{pick, both, either, no}
 use Rattle.text.specs.Line.{line_at}
 use Rattle.text.proofs.ChoiceLaws.{bool, both_true, either_false}
@@ -390,7 +390,7 @@ module _ (s : List ℕ) (w : WithoutEmpty s) where
     pub call_same : (p q : Config) → MatchingConfigs p q → SameCall s piece p q
     unfolding leaves takes stops says is_run
     call_same p q k = ⊎_elim
-        (λ e. subst (SameCall s piece p) (config-is k.areas (state-is p.state q.state k.state (eqb_true p.state.refusal.number none e)))
+        (λ e. subst (SameCall s piece p) (config-is k.areas (state-is p.state q.state k.state (eqb-true p.state.refusal.number none e)))
         (from_one p e))
         (λ e. let f : eqb q.state.refusal.number none ≡ false = rw (sym k.state.refusal.number) e in
         record {

@@ -8,7 +8,7 @@ use native.Mathlib.Omega.{arith}
 use mathlib.Core.List.{List, []}
 use lib.ListN.{length, get_or}
 use lib.Dec.{leb, ltb, eqb}
-use borrow.Author.Tests.{leb-true, leb-false, ltb-true, ltb-false, eqb_true}
+use borrow.Author.Tests.{leb-true, leb-false, ltb-true, ltb-false, eqb-true}
 use Rattle.text.specs.Expected.{lf}
 use Rattle.text.specs.Line.{line_at, line_number}
 use Rattle.text.specs.Word.{is_first_word}
@@ -66,7 +66,7 @@ state-starts s {h} line at e t =
     let q = both_true (leb at (length s)) _ p.1 in
     let r = both_true (eqb (get_or s (at - 1) 0) lf) (eqb line (line_number s at)) q.1 in
     reach-start at s h.first at (omega arith) (leb-true h.first at p.0) (leb-true at (length s) q.0)
-    (eqb_true (get_or s (at - 1) 0) lf r.0) (first-starts s e)
+    (eqb-true (get_or s (at - 1) 0) lf r.0) (first-starts s e)
 
 -- ---- past the text's end
 

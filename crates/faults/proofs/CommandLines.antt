@@ -8,7 +8,7 @@ use native.Mathlib.Omega.{arith}
 use mathlib.Core.List.{List, [], ◌∷◌, ◌++◌}
 use lib.ListN.{length, drop, get_or}
 use lib.Dec.{eqb}
-use borrow.Author.Tests.{eqb_true, eqb-false}
+use borrow.Author.Tests.{eqb-true, eqb-false}
 use Rattle.text.specs.Choice.{pick, both, either, no}
 use Rattle.text.specs.Expected.{space, lf}
 use Rattle.text.specs.Word.{is_first_word}
@@ -66,7 +66,7 @@ word-found (c ∷ word) {K} (b ∷ l) i {p} {r} n spaced ej ep x =
         (p ≡ suc i + shared word l → Reads (Bytes word K) (suc i) (seen is_lf l) (pick (is_first_word word l) r (fault p))) →
         p ≡ i + pick t (suc (shared word l)) 0 →
         Reads (Byte c (Bytes word K)) i (seen is_lf (b ∷ l)) (pick (both t (is_first_word word l)) r (fault p))
-    go true h q rest ep = rw (eqb_true b c h, q) (byte_past c (Bytes word K) refl (rest (omega arith)))
+    go true h q rest ep = rw (eqb-true b c h, q) (byte_past c (Bytes word K) refl (rest (omega arith)))
     go false h q rest ep =
         let f : p ≡ i = omega arith in
         rw f (byte-other c (Bytes word K) (seen is_lf (b ∷ l)) (bytes-alive word K x.alive) (eqb-false b c h))
@@ -161,7 +161,7 @@ starting_by P (b ∷ s) f = λ t. f (b ∷ t) refl
 first-starts : (c : ℕ) (word l : List ℕ) → is_first_word (c ∷ word) l ≡ true → Starts (seen is_lf l) c
 unfolding is_first_word
 first-starts c word [] e = absurd (clash e refl)
-first-starts c word (b ∷ l) e = eqb_true b c (both_true (eqb b c) (is_first_word word l) e).0
+first-starts c word (b ∷ l) e = eqb-true b c (both_true (eqb b c) (is_first_word word l) e).0
 
 -- one of some words, and what follows it
 AnyOf : List Word → Language

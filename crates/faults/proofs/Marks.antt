@@ -9,7 +9,7 @@ use mathlib.Core.List.{List, [], ◌∷◌}
 use lib.ListN.{length, drop, get_or, drop_of_length-le}
 use lib.Seq.{drop-cons}
 use lib.Dec.{ltb, eqb}
-use borrow.Author.Tests.{ltb-true, ltb-false, eqb_true, eq-eqb}
+use borrow.Author.Tests.{ltb-true, ltb-false, eqb-true, eq-eqb}
 use Rattle.text.specs.Choice.{pick}
 use Rattle.text.specs.Expected.{stands}
 use Rattle.text.proofs.ChoiceLaws.{bool, picks, both_true, both_is}
@@ -31,7 +31,7 @@ module _ (stop : ℕ → Bool) (s : List ℕ) (m at : ℕ) where
   stood : stands s at m ≡ true → drop at s ≡ m ∷ drop (suc at) s
   stood e =
       let p = both_true (ltb at (length s)) (eqb (get_or s at 0) m) e in
-      rw (drop-cons s at 0 (ltb-true at (length s) p.0), eqb_true (get_or s at 0) m p.1)
+      rw (drop-cons s at 0 (ltb-true at (length s) p.0), eqb-true (get_or s at 0) m p.1)
 
   stands-there : Starts (seen stop (drop at s)) m → stands s at m ≡ true
   stands-there h =

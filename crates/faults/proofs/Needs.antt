@@ -8,7 +8,7 @@ use Prim.Native.Nat.{ℕ, zero, suc, ◌+◌, ◌*◌, ◌/◌, ◌%◌, ◌≤�
 use native.Mathlib.Omega.{arith}
 use mathlib.Core.List.{List, [], ◌∷◌}
 use lib.Dec.{leb, ltb, eqb}
-use borrow.Author.Tests.{leb-true, ltb-true, le-leb, eq-eqb, eqb_true}
+use borrow.Author.Tests.{leb-true, ltb-true, le-leb, eq-eqb, eqb-true}
 use Rattle.text.specs.Choice.{either}
 use Rattle.text.specs.Number.{largest, digits_most, is_digit, then, is_count, meets, reaches, can_meet}
 use Rattle.text.specs.declared.number.Need.TheVariants as need
@@ -40,7 +40,7 @@ count-grows v e =
     let p = both_true (ltb 0 v) (either (eqb (v % 2) 0) (leb (v * 10) largest)) e in
     let l = ltb-true 0 v p.0 in
     ⊎_elim
-    (λ even. (v, [], last, count-even v (eqb_true (v % 2) 0 even) l))
+    (λ even. (v, [], last, count-even v (eqb-true (v % 2) 0 even) l))
     (λ room. let m = leb-true (v * 10) largest room in
     (then v 48, 48 ∷ [], more {b = 48} refl l (omega arith) last, count-even (then v 48) (omega arith) (omega arith)))
     (either_true (eqb (v % 2) 0) (leb (v * 10) largest) p.1)

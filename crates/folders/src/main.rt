@@ -56,7 +56,7 @@ fn show_file(path: &[u8]) {
     let mut buf = io::large_buffer();
     let n = io::read_full(fd, &mut buf);
     libc::close(fd);
-    show(sha1::digest(&buf[..n]));
+    show(sha1_digest::digest(&buf[..n]));
     io::write_all(STDOUT_FILENO, b"\n");
 }
 

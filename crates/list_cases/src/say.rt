@@ -47,7 +47,7 @@ fn say_letter(block: &[u8]) {
 }
 
 fn say_digest(block: &[u8]) {
-    let digest = sha1::digest(block);
+    let digest = sha1_digest::digest(block);
     say(b"[");
     io::print_hex(STDOUT_FILENO, digest[0] as u64, 2);
     io::print_hex(STDOUT_FILENO, digest[1] as u64, 2);

@@ -7,7 +7,7 @@ use mathlib.Core.Bool.{Bool, true, false}
 use mathlib.Core.List.{List, [], ◌∷◌, ◌++◌, append-nil, append_assoc}
 use mathlib.Core.Logic.{⊎_elim}
 use Prim.Native.Nat.{ℕ, zero, suc, ◌+◌, ◌%◌, ◌≤◌, ◌<◌}
-use native.Mathlib.Nat.{zero-add, add-zero, mod-eq_of_lt, mod_add_mod}
+use native.Mathlib.Nat.{zero-add, add-zero, mod-eq_of_lt, mod-add-mod}
 use native.Mathlib.Omega.{arith}
 use lib.ListN.{length, drop, replicate, drop_of_length-le}
 use Rattle.text.specs.Choice.{pick, either}
@@ -311,7 +311,7 @@ module _ (k : Machine) (Inv : k.Config → Type 0) (g : Sound k Inv) (total : k.
 
   total-put : (x t n : ℕ) (m : k.Config) → total m ≡ (t + n) % most → total (k.put x m) ≡ (t + suc n) % most
   total-put x t n m e =
-      put-total m x ∙ ap (λ (i : ℕ). (i + 1) % most) e ∙ mod_add_mod (t + n) most 1 ∙ ap (λ (i : ℕ). i % most) (omega arith)
+      put-total m x ∙ ap (λ (i : ℕ). (i + 1) % most) e ∙ mod-add-mod (t + n) most 1 ∙ ap (λ (i : ℕ). i % most) (omega arith)
 
   pub feeds-total : (xs : List ℕ) (m : k.Config) → Inv m → total (feeds k xs m) ≡ (total m + counts k xs m) % most
   feeds-total xs m v =

@@ -13,7 +13,7 @@ use lib.ListN.{length, get_or, set, drop, replicate, length-append, length-drop,
 use lib.ListN.{get_or-append, get_or-eq_default, replicate-append-replicate}
 use lib.Seq.{drop-cons, append_snoc, set_at, get_or-set_same, get_or-set_other}
 use lib.Dec.{ltb, eqb}
-use borrow.Author.Tests.{ltb-true, ltb-false, lt-ltb, le-ltb, eqb_true, eqb-false, eq-eqb, ne_eqb}
+use borrow.Author.Tests.{ltb-true, ltb-false, lt-ltb, le-ltb, eqb-true, eqb-false, eq-eqb, ne_eqb}
 use Rattle.text.specs.Choice.{both, no}
 use Rattle.text.proofs.ChoiceLaws.{both_true, no_true, no_false}
 use Rattle.marks.specs.Marks.{places_per_byte, row_of, bit_of, mark_at, is_taken, is_free, taking, cleared}
@@ -137,12 +137,12 @@ module _ (marks : List ℕ) (p : ℕ) where
           let within = free_within e in
           let row : p % length marks < length marks = mod-lt p (omega arith) in
           rw (
-            eqb_true (row_of marks q) (row_of marks p) g,
+            eqb-true (row_of marks q) (row_of marks p) g,
             taking_free e,
             get_or-set_same marks (row_of marks p) (get_or marks (row_of marks p) 0 + 2 ^ bit_of marks p) 0 row,
           )
           (bit_other (get_or marks (row_of marks p) 0) (bit_of marks p) (bit_clear (free_not_taken e)) (bit_of marks q)
-          (λ b. f (same_place (length marks) p q (eqb_true (row_of marks q) (row_of marks p) g) b)))
+          (λ b. f (same_place (length marks) p q (eqb-true (row_of marks q) (row_of marks p) g) b)))
       bits e false g =
           rw (taking_free e)
           (ap (λ (b : ℕ). b / 2 ^ bit_of marks q % 2) (get_or-set_other marks (row_of marks p) (row_of marks q) _ 0 (eqb-false _ _ g)))

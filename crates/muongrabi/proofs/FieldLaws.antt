@@ -8,7 +8,7 @@ use native.Mathlib.Omega.{arith}
 use lib.Dec.{eqb}
 use lib.ListN.{length, get_or, drop, drop_of_length-le}
 use lib.Seq.{drop-cons}
-use borrow.Author.Tests.{eqb_true}
+use borrow.Author.Tests.{eqb-true}
 use Rattle.text.specs.Below.{AllBelow}
 use Rattle.text.specs.Choice.{pick}
 use Rattle.state.specs.Refusals.{none, no_saved_form}
@@ -49,7 +49,7 @@ read-saved b h z n l e = go (eqb (restored_of b).number none) refl e
         (pick t (fields_of (restored_of b).state) (fields_as no_saved_form h z n)).hashes
         (pick t (fields_of (restored_of b).state) (fields_as no_saved_form h z n)).sizes
         (progress_with (pick t (fields_of (restored_of b).state) (fields_as no_saved_form h z n)).numbers))
-    go true i e = claim.own-form b l (eqb_true _ _ i)
+    go true i e = claim.own-form b l (eqb-true _ _ i)
     go false i e = absurd (omega arith)
 
 pub fields-claim : FieldsClaim

@@ -3,7 +3,7 @@
 #![tactic(auto)]
 
 ghost use Rattle.std.specs.Prelude.{◌≡◌, length};
-ghost use Rattle.sha1.specs.Sha1.{sha1};
+ghost use Rattle.sha1_digest.specs.Sha1.{sha1};
 ghost use Rattle.state.specs.States.{state_with};
 ghost use Rattle.transfer_list.specs.Opening.{lengths_of};
 ghost use Rattle.updater.specs.Areas.{areas_of};
@@ -92,7 +92,7 @@ pub extern "C" fn muongrabi_abi_6() -> usize
 pub extern "C" fn muongrabi_digest(bytes: &[u8], out: &mut [u8; 20])
     ensures { out.new ≡ sha1 bytes.now }
 {
-    *out = sha1::digest(bytes);
+    *out = sha1_digest::digest(bytes);
 }
 
 // Opens a list over areas and patch data of the given lengths in bytes. The state is written whole, whatever it held.

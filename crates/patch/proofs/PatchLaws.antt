@@ -1,6 +1,6 @@
 -- Laws of `specs/Patch.antt`: the records that are left, by the one that is read first; what they make, and how long it is.
 -- Assumes nothing.
-use Rattle.std.proofs.Common.{◌≡◌, ℕ, zero, suc, ◌+◌, ◌-◌, ◌<◌, ◌≤◌, Bool, true, false, eqb, ltb, List, ◌++◌, length, take, drop, sym, refl, ap, ◌∙◌, ap₂, append_assoc, append-nil, zero-add, arith, length-append, length-drop, length-take-le, take_at, le-ltb, lt-ltb, eqb_true}
+use Rattle.std.proofs.Common.{◌≡◌, ℕ, zero, suc, ◌+◌, ◌-◌, ◌<◌, ◌≤◌, Bool, true, false, eqb, ltb, List, ◌++◌, length, take, drop, sym, refl, ap, ◌∙◌, ap₂, append_assoc, append-nil, zero-add, arith, length-append, length-drop, length-take-le, take_at, le-ltb, lt-ltb, eqb-true}
 use lib.Seq.{take-length}
 use Rattle.text.specs.Choice.{pick, both}
 use Rattle.text.proofs.ChoiceLaws.{both_true}
@@ -163,7 +163,7 @@ module _ {patch source result : List ℕ} {at position out : ℕ} (w : Writing p
 -- the sizes of a patch's records are those of its result
 pub patch-size : (patch : List ℕ) (size : ℕ) → is_patch patch size ≡ true → result_size (records_of patch).list ≡ size
 unfolding is_patch
-patch-size patch size e = eqb_true _ _ (both_true (records_of patch).good (eqb (result_size (records_of patch).list) size) e).1
+patch-size patch size e = eqb-true _ _ (both_true (records_of patch).good (eqb (result_size (records_of patch).list) size) e).1
 
 -- what a good patch makes is as long as it is said to be
 pub patched-length : (patch source : List ℕ) (size : ℕ) → is_patch patch size ≡ true → length (patched_by patch source) ≡ size

@@ -6,7 +6,7 @@ use mathlib.Core.List.{List, [], ◌∷◌, ◌++◌, append_assoc}
 use mathlib.Core.Logic.{◌⊎◌, inl, inr, ⊎_elim}
 use Prim.Native.Nat.{ℕ, ◌+◌, ◌-◌, ◌*◌, ◌/◌, ◌≤◌, ◌<◌}
 use native.Mathlib.Omega.{arith}
-use borrow.Author.Tests.{ltb-true, ltb-false, leb-true, leb-false, eqb_true, eqb-false, lt-ltb, le-ltb, le-leb}
+use borrow.Author.Tests.{ltb-true, ltb-false, leb-true, leb-false, eqb-true, eqb-false, lt-ltb, le-ltb, le-leb}
 use lib.Dec.{leb, ltb, eqb}
 use lib.ListN.{length, take, drop, get_or, set, replicate, length-drop, length-set, length-replicate, get_or-append}
 use lib.Seq.{drop-drop, length-take-le, get_or-take, get_or-drop, get_or-append-add, get_or-set_same, get_or-set_other}
@@ -149,7 +149,7 @@ block_within b k = go (eqb (k / block_bytes) b) refl
   where
     go : (t : Bool) → eqb (k / block_bytes) b ≡ t → t ≡ within (block_bytes * b) block_bytes k
     go true e =
-        let q = eqb_true (k / block_bytes) b e in
+        let q = eqb-true (k / block_bytes) b e in
         rw (le-leb (block_bytes * b) k (omega arith), lt-ltb k (block_bytes * b + block_bytes) (omega arith))
     go false e =
         let q = eqb-false (k / block_bytes) b e in
@@ -191,7 +191,7 @@ pub overwrites_set : (n i x : ℕ) → i < n → Overwrites (λ k. eqb k i) n (�
 overwrites_set n i x l =
     record {
       size = λ a h. length-set a i x ∙ h;
-      sets = λ a b h j k t. rw (eqb_true k i t) (get_or-set_same b i x 0 (omega arith) ∙ sym (get_or-set_same a i x 0 (omega arith)));
+      sets = λ a b h j k t. rw (eqb-true k i t) (get_or-set_same b i x 0 (omega arith) ∙ sym (get_or-set_same a i x 0 (omega arith)));
       leaves = λ a h k t. get_or-set_other a i k x 0 (eqb-false k i t);
     }
 

@@ -6,7 +6,7 @@ use mathlib.Core.Bool.{Bool, true, false}
 use mathlib.Core.List.{List}
 use Prim.Native.Nat.{ℕ, ◌<◌}
 use native.Mathlib.Omega.{arith}
-use borrow.Author.Tests.{ltb-true, eqb_true}
+use borrow.Author.Tests.{ltb-true, eqb-true}
 use lib.Dec.{ltb, eqb}
 use lib.ListN.{length}
 use Rattle.text.specs.Choice.{pick, both, either}
@@ -99,7 +99,7 @@ module _ (s : List ℕ) (terms : Terms) (p : Config) (f : Fits s terms p) where
           × Agree L (pick t (next (step p.areas)) (refused p.areas)) (pick t (next (step b)) (refused b))
       go true e h d =
           let x = step-sets p.areas l hash (held p.state) p.state.ready p.state.stretches cmd
-          (runnable s terms p f (eqb_true (refusal_here least_blocks s terms p) none e)) h in
+          (runnable s terms p f (eqb-true (refusal_here least_blocks s terms p) none e)) h in
           (ap stops_after (sym (x.ends b)), record { state = ap (state_after l hash cmd p.state) (x.ends b); areas = x.agree L b d })
       go false e h d = (refl, record { state = refl; areas = d })
 
@@ -114,7 +114,7 @@ module _ (s : List ℕ) (terms : Terms) (p : Config) (f : Fits s terms p) where
           (both t (stops_after (step p.areas).end) ≡ both t (stops_after (step b).end))
           × (pick t (next (step p.areas)) (refused p.areas) ≡ pick t (next (step b)) (refused b))
       go true e h d =
-          let passes = eqb_true (refusal_here least_blocks s terms p) none e in
+          let passes = eqb-true (refusal_here least_blocks s terms p) none e in
           let x = step-reads p.areas l hash (held p.state) p.state.ready p.state.stretches terms cmd (keeps s terms p f) passes
           (runnable s terms p f passes) h in
           (ap (λ (y : Stepped). stops_after y.end) (sym (x.same b d)), ap next (sym (x.same b d)))
@@ -127,7 +127,7 @@ module _ (s : List ℕ) (terms : Terms) (p : Config) (f : Fits s terms p) where
       go : (t : Bool) → eqb (refusal_here least_blocks s terms p) none ≡ t →
           AreasOutside (pick t writes nowhere) p.areas (pick t (next (step p.areas)) (refused p.areas)).areas
       go true e =
-          let passes = eqb_true (refusal_here least_blocks s terms p) none e in
+          let passes = eqb-true (refusal_here least_blocks s terms p) none e in
           step-only p.areas l hash (held p.state) p.state.ready p.state.stretches terms cmd (keeps s terms p f) passes
           (runnable s terms p f passes)
       go false e = areas-same nowhere p.areas
@@ -160,7 +160,7 @@ module _ (s : List ℕ) (terms : Terms) (p : Config) (f : Fits s terms p) where
   byte-in_image y e =
       let n = new_bytes cmd in
       let b = both_true (eqb (refusal_here least_blocks s terms p) none) (ltb p.state.into n) (rw e at y) in
-      new_in_image l p cmd p.state.into (runnable s terms p f (eqb_true (refusal_here least_blocks s terms p) none b.0))
+      new_in_image l p cmd p.state.into (runnable s terms p f (eqb-true (refusal_here least_blocks s terms p) none b.0))
       (ltb-true p.state.into n b.1)
 
   put-plain : (L : Spot → Bool) (x : ℕ) (b : Areas) → (machine least_blocks s terms).waits p ≡ true → is_stopped s p ≡ false →

@@ -5,7 +5,7 @@ use mathlib.Core.Bool.{Bool, true, false, not}
 use Prim.Native.Nat.{ℕ, ◌<◌}
 use native.Mathlib.Omega.{arith}
 use lib.Dec.{leb, ltb, eqb}
-use borrow.Author.Tests.{eq-eqb, ne_eqb, eqb_true, eqb-false, le-leb, lt-leb, leb-true, leb-false, lt-ltb, le-ltb, ltb-true, ltb-false}
+use borrow.Author.Tests.{eq-eqb, ne_eqb, eqb-true, eqb-false, le-leb, lt-leb, leb-true, leb-false, lt-ltb, le-ltb, ltb-true, ltb-false}
 use Rattle.text.specs.Choice.{no}
 use Rattle.state.specs.Sums.{bound, bounded}
 
@@ -18,7 +18,7 @@ module _ (m n : ℕ) (l : n < bound) where
   eqb_bounded = go (eqb m n) refl
     where
       go : (t : Bool) → eqb m n ≡ t → eqb (bounded m) n ≡ t
-      go true e = let q = eqb_true m n e in eq-eqb (bounded m) n (omega arith)
+      go true e = let q = eqb-true m n e in eq-eqb (bounded m) n (omega arith)
       go false e = ne_eqb (bounded m) n (λ q. eqb-false m n e (omega arith))
 
   pub leb_bounded : leb (bounded m) n ≡ leb m n

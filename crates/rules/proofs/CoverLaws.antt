@@ -6,7 +6,7 @@ use mathlib.Core.List.{List, [], ◌∷◌, ◌++◌}
 use mathlib.Core.Logic.{⊎_elim}
 use Prim.Native.Nat.{ℕ, zero, suc, ◌≤◌, ◌<◌}
 use native.Mathlib.Omega.{arith}
-use borrow.Author.Tests.{eqb_true, eqb-false, eq-eqb}
+use borrow.Author.Tests.{eqb-true, eqb-false, eq-eqb}
 use lib.Dec.{leb, eqb}
 use lib.ListN.{length}
 use Rattle.text.specs.Choice.{pick, either}
@@ -72,7 +72,7 @@ length-except n (p ∷ ps) d = go (eqb n p) refl (length-except n ps d.1)
   where
     go : (b : Bool) → eqb n p ≡ b → length ps ≤ suc (length (except n ps))
         → suc (length ps) ≤ suc (length (pick b (except n ps) (p ∷ except n ps)))
-    go true e r = omega (arith, ap length (except-none n ps (rw (eqb_true n p e) d.0)))
+    go true e r = omega (arith, ap length (except-none n ps (rw (eqb-true n p e) d.0)))
     go false e r = omega arith
 
 few : (n : ℕ) (ps : List ℕ) → Distinct ps → AllBelow n ps → length ps ≤ n
@@ -93,7 +93,7 @@ not_taken n q taken (p ∷ ps) e t =
     rw (not_taken n q (p ∷ taken) ps b.1 (either_is (eqb q p) t)) (other (eqb q p) refl b.0)
   where
     other : (b : Bool) → eqb q p ≡ b → is_in p taken ≡ false → either b false ≡ false
-    other true e f = sym t ∙ rw (eqb_true q p e) f
+    other true e f = sym t ∙ rw (eqb-true q p e) f
     other false e f = refl
 
 distinct_places : (n : ℕ) (taken ps : List ℕ) → some_misplaced n taken ps ≡ false → Distinct ps

@@ -6,7 +6,7 @@ use mathlib.Core.List.{List, [], ◌∷◌, ◌++◌, append_assoc, append-nil}
 use mathlib.Core.Logic.{◌⊎◌, inl, inr}
 use Prim.Native.Nat.{ℕ, suc, ◌+◌, ◌*◌, ◌≤◌}
 use native.Mathlib.Omega.{arith}
-use borrow.Author.Tests.{eqb_true, eq-eqb}
+use borrow.Author.Tests.{eqb-true, eq-eqb}
 use lib.Dec.{eqb}
 use lib.ListN.{length, get_or, take, drop, length-append, length-take, length-drop, take-append-drop, drop_of_length-le}
 use lib.Seq.{drop-cons, drop-drop, take_at, drop-append-add, get_or-append-add, get_or_at}
@@ -189,8 +189,8 @@ piece b at letter n l m =
     let one : suc at ≡ at + 1 = omega arith in
     let two : suc (at + 1) ≡ at + mark_bytes = omega arith in
     let next : at + (mark_bytes + n) ≡ at + mark_bytes + n = omega arith in
-    let first : drop at b ≡ letter_s ∷ drop (at + 1) b = drop-cons b at 0 (omega arith) ∙ rw (eqb_true (get_or b at 0) letter_s t.0, one) in
-    let second : drop (at + 1) b ≡ letter ∷ drop (at + mark_bytes) b = drop-cons b (at + 1) 0 (omega arith) ∙ rw (eqb_true (get_or b (at + 1) 0) letter t.1, two) in
+    let first : drop at b ≡ letter_s ∷ drop (at + 1) b = drop-cons b at 0 (omega arith) ∙ rw (eqb-true (get_or b at 0) letter_s t.0, one) in
+    let second : drop (at + 1) b ≡ letter ∷ drop (at + mark_bytes) b = drop-cons b (at + 1) 0 (omega arith) ∙ rw (eqb-true (get_or b (at + 1) 0) letter t.1, two) in
     first ∙ rw (second, next, ← drop-drop n (at + mark_bytes) b, take-append-drop n (drop (at + mark_bytes) b))
 
 -- .. of numbers

@@ -5,7 +5,7 @@ use mathlib.Core.Bool.{Bool, true, false}
 use mathlib.Core.List.{List, [], ◌∷◌, ◌++◌, append_assoc, append-nil}
 use Prim.Native.Nat.{ℕ, suc, ◌+◌, ◌-◌, ◌≤◌, ◌<◌}
 use native.Mathlib.Omega.{arith}
-use borrow.Author.Tests.{eqb_true}
+use borrow.Author.Tests.{eqb-true}
 use lib.ListN.{length, take, drop, set, drop_of_length-le}
 use lib.Seq.{take_all}
 use Rattle.text.specs.Choice.{pick}
@@ -45,7 +45,7 @@ front-all area bytes h =
 -- bytes that are a saved form have its length
 pub saved-length : (b : List ℕ) → is_saved b ≡ true → length b ≡ saved_bytes
 unfolding is_saved
-saved-length b h = eqb_true _ _ (both_true _ _ h).0
+saved-length b h = eqb-true _ _ (both_true _ _ h).0
 
 -- ---- over tables that are lent
 

@@ -8,7 +8,7 @@ use Prim.Native.Nat.{ℕ, suc, ◌+◌, ◌-◌, ◌^◌, ◌<◌}
 use native.Mathlib.Omega.{arith}
 use lib.ListN.{length, get_or}
 use lib.Dec.{leb, eqb}
-use borrow.Author.Tests.{eqb_true}
+use borrow.Author.Tests.{eqb-true}
 use Rattle.text.specs.Expected.{lf}
 use Rattle.text.specs.Line.{line_number}
 use Rattle.text.proofs.LineLaws.{line-mark}
@@ -64,7 +64,7 @@ possible-line s lengths t e =
         let at_line_lem = (both_true (at_line s h t.line t.at) _ f).0 in
         let first = both_true (leb h.first t.at) _ at_line_lem in
         let within = both_true (leb t.at (length s)) _ first.1 in
-        eqb_true t.line (line_number s t.at) (both_true (eqb (get_or s (t.at - 1) 0) lf) _ within.1).1
+        eqb-true t.line (line_number s t.at) (both_true (eqb (get_or s (t.at - 1) 0) lf) _ within.1).1
 
 module _ (s : List ℕ) (from : ℕ) where
   -- nothing refused
@@ -154,7 +154,7 @@ module _ (s : List ℕ) (from : ℕ) where
         picks (λ (q : Config). Follows s from q.state) (eqb (refusal_here least_blocks s terms p) none)
         (after (current_line s p) (command_of least_blocks (current_line s p)).hash (current_command least_blocks s p) p)
         (refused_at (refusal_here least_blocks s terms p) (fault_here least_blocks s p) p)
-        (λ t. after-follows (eqb_true (refusal_here least_blocks s terms p) none t) v)
+        (λ t. after-follows (eqb-true (refusal_here least_blocks s terms p) none t) v)
         (λ t. record { line = v.line; before = v.before })
 
     quiet-reports : NotStopped s p → Follows s from p.state → CallReports s from (quiet_step least_blocks s terms p).state
@@ -208,5 +208,5 @@ call-reports s piece p r a b c =
     (call-keeps (machine least_blocks s terms) (halts_at least_blocks s terms) (Reporting s from terms) (reports-sound s from terms) piece p (
       possible-fits s p k.1 a b c,
       record { line = possible-line s (lengths_at s p.areas) p.state k.1; before = nothing_yet },
-      none-reports s from p.state (eqb_true p.state.refusal.number none k.0),
+      none-reports s from p.state (eqb-true p.state.refusal.number none k.0),
     )).2

@@ -8,7 +8,7 @@ use mathlib.Core.Logic.{⊎_elim}
 use mathlib.Core.List.{List, []}
 use Prim.Native.Nat.{ℕ, ◌*◌, ◌/◌, ◌≤◌, ◌<◌}
 use native.Mathlib.Omega.{arith}
-use borrow.Author.Tests.{ltb-true, eqb_true, eqb-false}
+use borrow.Author.Tests.{ltb-true, eqb-true, eqb-false}
 use lib.Dec.{ltb, eqb}
 use lib.ListN.{length, take, set, length-take}
 use Rattle.text.specs.Line.{line_at}
@@ -193,7 +193,7 @@ module _ (l : List ℕ) (terms : Terms) (held : List Stash) (hash : List ℕ) (a
       let older = blocks_held-before held j in
       ⊎_elim
       (λ t.
-      let none : block_bytes * n ≡ 0 = omega (arith, eqb_true n 0 t) in
+      let none : block_bytes * n ≡ 0 = omega (arith, eqb-true n 0 t) in
       rw none (subst (SameIn (Past terms.blocks) a.stash) (sym (moved_down-none a.stash _ _)) (same a.stash)))
       (λ t.
       let some = eqb-false n 0 t in
@@ -318,7 +318,7 @@ module _ (s : List ℕ) (lengths : Lengths) (h : Header) (a₀ : Areas) where
   unfolding needs_byte put_byte further_into
   put_written p x v w m n =
       let b = both_true (eqb (refusal_here least_blocks s (terms_of lengths h) p) none) (ltb p.state.into (new_bytes (current_command least_blocks s p))) (rw n at m) in
-      let e = eqb_true (refusal_here least_blocks s (terms_of lengths h) p) none b.0 in
+      let e = eqb-true (refusal_here least_blocks s (terms_of lengths h) p) none b.0 in
       let l = ltb-true p.state.into (new_bytes (current_command least_blocks s p)) b.1 in
       written-more s a₀ (up_to-here s lengths h p v) (omega arith) w (here-byte s lengths h p v e x l)
 

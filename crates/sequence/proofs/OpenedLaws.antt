@@ -6,7 +6,7 @@ use mathlib.Core.List.{List, []}
 use mathlib.Core.Logic.{◌⊎◌, inl, inr}
 use Prim.Native.Nat.{ℕ, zero, suc, ◌+◌}
 use native.Mathlib.Omega.{arith}
-use borrow.Author.Tests.{eqb_true, eqb-false}
+use borrow.Author.Tests.{eqb-true, eqb-false}
 use lib.Dec.{leb, eqb}
 use lib.ListN.{length, length-replicate}
 use Rattle.text.specs.Choice.{no}
@@ -45,7 +45,7 @@ module _ (s : List ℕ) (lengths : Lengths) (e : open_refusal least_blocks s len
     where
       go : (eqb (start_refusal s lengths).number none ≡ true) ⊎ (eqb (start_refusal s lengths).number none ≡ false) →
           ((start_refusal s lengths).number ≡ none) × (commands_refusal least_blocks s lengths (header_of s) ≡ no_refusal)
-      go (inl t) = (eqb_true (start_refusal s lengths).number none t, rw t at e)
+      go (inl t) = (eqb-true (start_refusal s lengths).number none t, rw t at e)
       go (inr t) = absurd (eqb-false (start_refusal s lengths).number none t (ap (λ (r : Refusal). r.number) (rw t at e)))
 
   opened-state : {h : Header} → header_of s ≡ Good h → open_state least_blocks s lengths ≡ state_at first_line h.first no_refusal lengths
@@ -142,7 +142,7 @@ pub state-decided : (s : List ℕ) (lengths : Lengths) → (open_state least_blo
 unfolding open_state accepted_state refused_state
 state-decided s lengths =
     picks (λ (t : State). t.refusal.number ≡ none → open_refusal least_blocks s lengths ≡ no_refusal) (eqb (open_refusal least_blocks s lengths).number none) _ _
-    (λ e r. open_decided s lengths (eqb_true (open_refusal least_blocks s lengths).number none e))
+    (λ e r. open_decided s lengths (eqb-true (open_refusal least_blocks s lengths).number none e))
     (λ e r. absurd (eqb-false (open_refusal least_blocks s lengths).number none e r))
 
 -- where an accepted opening leaves a run: at the start of a line, with no byte taken

@@ -7,7 +7,7 @@ use mathlib.Core.List.{List}
 use mathlib.Core.Logic.{◌⊎◌, inl, inr}
 use Prim.Native.Nat.{ℕ, ◌+◌, ◌-◌, ◌*◌, ◌<◌}
 use native.Mathlib.Omega.{arith}
-use borrow.Author.Tests.{ltb-true, eqb_true}
+use borrow.Author.Tests.{ltb-true, eqb-true}
 use lib.Dec.{ltb, eqb}
 use lib.ListN.{length, length-set}
 use Rattle.text.proofs.ChoiceLaws.{picks, both_true, either_false}
@@ -333,7 +333,7 @@ module _ (s : List ℕ) (terms : Terms) (p : Config) where
       record {
         set = n.0;
         is_new = n.1;
-        good = new_good (current_line s p) terms (held p.state) n.1 (eqb_true (refusal_here least_blocks s terms p) none b.0);
+        good = new_good (current_line s p) terms (held p.state) n.1 (eqb-true (refusal_here least_blocks s terms p) none b.0);
         within = omega arith;
       }
 

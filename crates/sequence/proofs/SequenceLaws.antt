@@ -6,11 +6,11 @@ use mathlib.Core.Bool.{Bool, true, false}
 use mathlib.Core.Logic.{⊎_elim}
 use mathlib.Core.List.{List, [], ◌∷◌, ◌++◌}
 use Prim.Native.Nat.{ℕ, ◌+◌, ◌-◌, ◌*◌, ◌%◌, ◌^◌, ◌<◌}
-use native.Mathlib.Nat.{mod_add_mod, add-zero, mod-eq_of_lt}
+use native.Mathlib.Nat.{mod-add-mod, add-zero, mod-eq_of_lt}
 use native.Mathlib.Omega.{arith}
 use lib.ListN.{length, drop, replicate}
 use lib.Dec.{leb, eqb}
-use borrow.Author.Tests.{eqb_true, eqb-false}
+use borrow.Author.Tests.{eqb-true, eqb-false}
 use Rattle.text.specs.Choice.{pick, either, no}
 use Rattle.text.proofs.ChoiceLaws.{bool, picks}
 use Rattle.ranges.specs.Ranges.{least_blocks}
@@ -129,7 +129,7 @@ unfolding says stops leaves
 says_by s q p a =
     ⊎_elim
     (λ (e : eqb p.state.refusal.number none ≡ true).
-    let r = a (eqb_true p.state.refusal.number none e) in
+    let r = a (eqb-true p.state.refusal.number none e) in
     rw (e, run-possible s p e r, r))
     (λ (e : eqb p.state.refusal.number none ≡ false). rw (e, not-run s p e))
     (bool (eqb p.state.refusal.number none))
@@ -178,7 +178,7 @@ module _ (s : List ℕ) (lengths : Lengths) (h : Header) where
     leaves-ends =
         ⊎_elim
         (λ (e : eqb p.state.refusal.number none ≡ true).
-        rw (v.possible (eqb_true p.state.refusal.number none e))
+        rw (v.possible (eqb-true p.state.refusal.number none e))
         (ap (λ (w : Terms). (call_ends (machine least_blocks s w) (halts_at least_blocks s w) q p).config) (running-terms s lengths h p v.running)))
         (λ (e : eqb p.state.refusal.number none ≡ false).
         rw (not-run s p e) (sym (ap (λ (c : Halted Config). c.config) (still e).0)))
@@ -189,7 +189,7 @@ module _ (s : List ℕ) (lengths : Lengths) (h : Header) where
     stops-ends =
         ⊎_elim
         (λ (e : eqb p.state.refusal.number none ≡ true).
-        rw (v.possible (eqb_true p.state.refusal.number none e))
+        rw (v.possible (eqb-true p.state.refusal.number none e))
         (ap (λ (w : Terms). (call_ends (machine least_blocks s w) (halts_at least_blocks s w) q p).halted) (running-terms s lengths h p v.running)))
         (λ (e : eqb p.state.refusal.number none ≡ false).
         rw (not-run s p e) (sym (ap (λ (c : Halted Config). c.halted) (still e).0)))
@@ -200,7 +200,7 @@ module _ (s : List ℕ) (lengths : Lengths) (h : Header) where
     takes-ends =
         ⊎_elim
         (λ (e : eqb p.state.refusal.number none ≡ true).
-        rw (v.possible (eqb_true p.state.refusal.number none e))
+        rw (v.possible (eqb-true p.state.refusal.number none e))
         (ap (λ (w : Terms). call_takes (machine least_blocks s w) (halts_at least_blocks s w) q p) (running-terms s lengths h p v.running)))
         (λ (e : eqb p.state.refusal.number none ≡ false). rw (not-run s p e) (sym (still e).1))
         (bool (eqb p.state.refusal.number none))
@@ -309,7 +309,7 @@ module _ (s : List ℕ) (lengths : Lengths) (h : Header) where
       call-total machine_here (Running s lengths h) (running-sound s lengths h) (λ (m : Config). m.state.total) (2 ^ 64) (λ m u. u.fits.total)
       (λ m u w. quiet-total s (terms_of lengths h) m) (λ m x. put-total s (terms_of lengths h) m x) halts_here piece p v.running
       ∙ ap (λ (i : ℕ). (i + n) % 2 ^ 64) e
-      ∙ mod_add_mod (t + c.taken) (2 ^ 64) n
+      ∙ mod-add-mod (t + c.taken) (2 ^ 64) n
       ∙ ap (λ (i : ℕ). i % 2 ^ 64) a
 
   module _ (p : Config) (v : Callable p) where

@@ -6,7 +6,7 @@ use Rattle.std.specs.Prelude.{◌≡◌, false, List, [], ◌∷◌, ◌++◌, �
 use Prim.Native.Char.{code}
 use Prim.Native.String.{String, [] as []ˢ, ◌∷◌ as ◌∷ˢ◌}
 use Rattle.std.proofs.lemmas.List.{length-replicate}
-use Rattle.sha1.specs.Sha1.{sha1}
+use Rattle.sha1_digest.specs.Sha1.{sha1}
 use Rattle.text.specs.Choice.{pick}
 use Rattle.text.specs.Hash.{hash_bytes}
 use Rattle.text.specs.Hex.{hex_of}

@@ -12,7 +12,7 @@
 use libc::{STDIN_FILENO, STDOUT_FILENO};
 use records::buffers::{fill_pattern, part, put};
 use records::fields::{number, rest, which};
-use sha1::Hasher;
+use sha1_digest::Hasher;
 
 const MESSAGE_ROOM: usize = 1000000;
 
@@ -47,7 +47,7 @@ fn absorb(message: &[u8], n: usize, length: usize, v: Vector) -> Vector {
     let mut left = n;
     while 0 < left {
         let piece = part(message, taken, length);
-        hasher = sha1::absorb(hasher, piece);
+        hasher = sha1_digest::absorb(hasher, piece);
         taken = std::num::wrapping_add_usize(taken, piece.len());
         left -= 1;
     }
@@ -62,13 +62,13 @@ fn start() -> Vector {
     Vector {
         len: 0,
         taken: 0,
-        hasher: sha1::start(),
+        hasher: sha1_digest::start(),
     }
 }
 
 fn finish(v: Vector) -> Vector {
     let hasher = v.hasher;
-    show(sha1::finish(hasher));
+    show(sha1_digest::finish(hasher));
     v
 }
 
@@ -97,7 +97,7 @@ fn step(line: &[u8], message: &mut [u8], v: Vector) -> Vector {
         1 => start(),
         2 => pattern(message, number(line, 1), v),
         3 => {
-            show(sha1::digest(part(&*message, 0, v.len)));
+            show(sha1_digest::digest(part(&*message, 0, v.len)));
             v
         }
         4 => {

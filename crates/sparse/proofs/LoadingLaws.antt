@@ -6,7 +6,7 @@ use Prim.Native.Nat.{ℕ, zero, suc, ◌+◌, ◌-◌, ◌*◌, ◌/◌, ◌%◌
 use native.Mathlib.Omega.{arith}
 use lib.ListN.{length, get_or, set, take, drop, length-append, length-take, length-drop, get_or-append}
 use lib.Seq.{get_or-append-add}
-use borrow.Author.Tests.{eq-eqb, ne_eqb, eqb_true}
+use borrow.Author.Tests.{eq-eqb, ne_eqb, eqb-true}
 use Rattle.copy.specs.Over.{front}
 use Rattle.copy.proofs.OverLaws.{front-more, part_back}
 use Rattle.state.specs.Limits.{block_bytes}
@@ -137,7 +137,7 @@ pub load_size : (file : List ℕ) (bytes : ℕ) → load_refusal file bytes ≡ 
 unfolding load_refusal image_refusal
 load_size file bytes e =
     let size = (or_else_none _ _ (or_else_none (header_refusal file) _ e).1).0 in
-    eqb_true _ _ (no_false _ (none-applies (λ (n : ℕ). n) (image_rows (total_blocks file) bytes) none refl size 0))
+    eqb-true _ _ (no_false _ (none-applies (λ (n : ℕ). n) (image_rows (total_blocks file) bytes) none refl size 0))
 
 module _ (file image : List ℕ) where
   pub image_loaded : load_refusal file (length image) ≡ none → chunks_over file (chunks_of file).list image ≡ loaded_image file image

@@ -7,7 +7,7 @@ use Prim.Native.Nat.{ℕ, zero, suc, ◌+◌, ◌-◌, ◌*◌, ◌≤◌, ◌<�
 use native.Mathlib.Omega.{arith}
 use lib.ListN.{length}
 use lib.Dec.{leb, ltb, eqb}
-use borrow.Author.Tests.{lt-ltb, le-ltb, le-leb, lt-leb, eq-eqb, ne_eqb, ltb-false, leb-true, eqb_true}
+use borrow.Author.Tests.{lt-ltb, le-ltb, le-leb, lt-leb, eq-eqb, ne_eqb, ltb-false, leb-true, eqb-true}
 use Rattle.text.specs.Choice.{both}
 use Rattle.text.specs.Rows.{first_of}
 use Rattle.text.proofs.ChoiceLaws.{both_true, no_false}
@@ -80,7 +80,7 @@ module _ (room type blocks bytes : ℕ) where
       let a = both_true (leb bytes room) (both (is_known type) (both (ltb 0 blocks) total)) e in
       let b = both_true (is_known type) (both (ltb 0 blocks) total) a.1 in
       let c = both_true (ltb 0 blocks) total b.1 in
-      (leb-true bytes room a.0, eqb_true bytes (chunk_header_bytes + body_bytes (kind_of type) blocks) c.1)
+      (leb-true bytes room a.0, eqb-true bytes (chunk_header_bytes + body_bytes (kind_of type) blocks) c.1)
 
 -- ---- a chunk that was read
 

@@ -154,9 +154,9 @@ fn say_refused(k: usize) {
 
 fn load(file: &[u8], image: &mut [u8]) {
     fill_pattern(image);
-    let before = sha1::digest(&*image);
+    let before = sha1_digest::digest(&*image);
     let k = sparse::load(file, image);
-    let after = sha1::digest(&*image);
+    let after = sha1_digest::digest(&*image);
     if k == 0 {
         say(b"loaded ");
         say_digest(after);
@@ -200,9 +200,9 @@ fn load_parts(file: &[u8], image: &mut [u8]) {
 
 fn every(file: &[u8], image: &mut [u8]) {
     fill_pattern(image);
-    let before = sha1::digest(&*image);
+    let before = sha1_digest::digest(&*image);
     load_parts(file, image);
-    let after = sha1::digest(&*image);
+    let after = sha1_digest::digest(&*image);
     if !check::same(&before, &after) {
         say(b"changed, ");
     }

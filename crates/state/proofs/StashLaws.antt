@@ -7,7 +7,7 @@ use mathlib.Core.List.{List, [], ◌∷◌, ◌++◌}
 use Prim.Native.Nat.{ℕ, zero, suc, ◌+◌, ◌≤◌, ◌<◌}
 use native.Mathlib.Numerals.{add-one}
 use native.Mathlib.Omega.{arith}
-use borrow.Author.Tests.{eqb_true, eqb-false, eq-eqb, ne_eqb}
+use borrow.Author.Tests.{eqb-true, eqb-false, eq-eqb, ne_eqb}
 use lib.Dec.{eqb, eqb-zero-suc, eqb-suc-zero, eqb-suc-suc}
 use lib.ListN.{length, take, drop, get_or, take-append-drop, drop_of_length-le}
 use lib.Seq.{drop-cons}
@@ -44,7 +44,7 @@ same_eq [] (y ∷ ys) e = absurd (let z : ◌≡◌ {A = ℕ} 0 1 = cc in omega 
 same_eq (x ∷ xs) [] e = absurd (let z : ◌≡◌ {A = ℕ} 0 1 = cc in omega arith)
 same_eq (x ∷ xs) (y ∷ ys) e =
     let b = both_true (eqb x y) (same xs ys) e in
-    ap₂ (λ (n : ℕ) (l : List ℕ). n ∷ l) (eqb_true x y b.0) (same_eq xs ys b.1)
+    ap₂ (λ (n : ℕ) (l : List ℕ). n ∷ l) (eqb-true x y b.0) (same_eq xs ys b.1)
 
 -- from byte i on, hashes are the same where byte i is and those behind it are
 pub same_next : (a b : List ℕ) (i : ℕ) → i < length a → i < length b

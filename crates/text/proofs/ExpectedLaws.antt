@@ -6,7 +6,7 @@ use mathlib.Core.Bool.{Bool, true, false}
 use mathlib.Core.List.{List}
 use lib.ListN.{length, get_or}
 use lib.Dec.{ltb, eqb}
-use borrow.Author.Tests.{lt-ltb, le-ltb, eq-eqb, ne_eqb, ltb-true, eqb_true}
+use borrow.Author.Tests.{lt-ltb, le-ltb, eq-eqb, ne_eqb, ltb-true, eqb-true}
 use Rattle.text.specs.Choice.{pick, both}
 use Rattle.text.specs.declared.expected.Expected.{Expected}
 use Rattle.text.specs.declared.expected.Expected.TheVariants.{Past, Bad}
@@ -35,7 +35,7 @@ module _ (s : List ℕ) (at m : ℕ) where
   stood = go (ltb at (length s)) (eqb (get_or s at 0) m) refl refl
     where
       go : (p q : Bool) → ltb at (length s) ≡ p → eqb (get_or s at 0) m ≡ q → Stood s at m (pick (both p q) (Past (at + 1)) (Bad at))
-      go true true e f = (refl, ltb-true at (length s) e, eqb_true (get_or s at 0) m f)
+      go true true e f = (refl, ltb-true at (length s) e, eqb-true (get_or s at 0) m f)
       go true false e f = tt
       go false q e f = tt
 

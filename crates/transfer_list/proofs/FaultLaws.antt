@@ -9,7 +9,7 @@ use native.Mathlib.Omega.{arith}
 use lib.ListN.{length, take, drop, get_or, length-drop}
 use lib.Seq.{get_or-drop}
 use lib.Dec.{leb, ltb, eqb}
-use borrow.Author.Tests.{eq-eqb, eqb_true, leb-false, ltb-true, ltb-false}
+use borrow.Author.Tests.{eq-eqb, eqb-true, leb-false, ltb-true, ltb-false}
 use Rattle.text.specs.Choice.{pick, no}
 use Rattle.text.specs.Rows.{first_of}
 use Rattle.text.specs.Expected.{expected_at, on_expected, lf}
@@ -307,7 +307,7 @@ module _ (s : List ℕ) where
       (λ t. picks (Reports s) (eqb (refusal_of least_blocks (line_at s at) terms held) none) _ (line_refusal least_blocks s terms line at held)
       (λ u. let z : line + 1 ≡ suc line = omega arith in
       lines_report n terms h (line + 1) (at + length (line_at s at)) _ _ (omega arith) (line-next line (omega arith) e)
-      (rw z (good-command line e before w (command-line-good at terms held (eqb_true (refusal_of least_blocks (line_at s at) terms held) none u)))))
+      (rw z (good-command line e before w (command-line-good at terms held (eqb-true (refusal_of least_blocks (line_at s at) terms held) none u)))))
       (λ u. line-reports terms line at held w (omega (arith, leb-false (length s) at t)) e before))
 
   -- ---- an opening

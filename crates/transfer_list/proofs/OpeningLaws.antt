@@ -6,7 +6,7 @@ use mathlib.Core.List.{List}
 use mathlib.Core.Logic.{⊎_elim}
 use Prim.Native.Nat.{ℕ, zero, suc, ◌+◌, ◌-◌, ◌≤◌, ◌<◌}
 use native.Mathlib.Omega.{arith}
-use borrow.Author.Tests.{le-leb, lt-leb, ne_eqb, eqb_true, eqb-false}
+use borrow.Author.Tests.{le-leb, lt-leb, ne_eqb, eqb-true, eqb-false}
 use lib.Dec.{eqb}
 use lib.ListN.{length}
 use Rattle.text.specs.Line.{line_at}
@@ -71,7 +71,7 @@ module _ (n : ℕ) (s : List ℕ) (terms : Terms) (h : Header) (line at : ℕ) (
         let r = refusal_of least_blocks (line_at s at) terms stashes in
         ⊎_elim
         (λ (t : eqb r none ≡ true).
-        let z = eqb_true r none t in
+        let z = eqb-true r none t in
         record { good = z; rest = sym (lines-go-on z) ∙ e })
         (λ (t : eqb r none ≡ false).
         absurd (eqb-false r none t (ap (λ (x : Refusal). x.number) (sym (lines-refused (eqb-false r none t)) ∙ e))))

@@ -2,7 +2,7 @@
 -- data in one go.
 -- Assumes nothing.
 use Rattle.std.proofs.Common.{◌≡◌, ℕ, suc, ◌+◌, ◌-◌, ◌%◌, ◌^◌, ◌<◌, ◌≤◌, true, false, List, [], ◌∷◌, length, refl, ap, ◌∙◌, add-zero, mod-lt, mod-eq_of_lt, arith, le-ltb, lt-ltb, eq-eqb, ne_eqb}
-use native.Mathlib.Nat.{mod_add_mod}
+use native.Mathlib.Nat.{mod-add-mod}
 use borrow.Author.Tests.{lt-leb}
 use Rattle.ranges.specs.Ranges.{least_blocks}
 use Rattle.state.specs.Refusals.{none}
@@ -98,5 +98,5 @@ module _ (s : List ℕ) (terms : Terms) where
   puts_new blocks (x ∷ xs) p e h =
       let n : p.state.into + 1 + length xs ≡ p.state.into + suc (length xs) = omega arith in
       let t : ((p.state.total + 1) % 2 ^ 64 + length xs) % 2 ^ 64 ≡ (p.state.total + suc (length xs)) % 2 ^ 64 =
-      mod_add_mod (p.state.total + 1) (2 ^ 64) (length xs) ∙ ap (λ (i : ℕ). i % 2 ^ 64) (omega arith) in
+      mod-add-mod (p.state.total + 1) (2 ^ 64) (length xs) ∙ ap (λ (i : ℕ). i % 2 ^ 64) (omega arith) in
       puts_new blocks xs (put_byte least_blocks s x p) e (mod-lt (p.state.total + 1) (omega arith)) ∙ rw (e, n, t)

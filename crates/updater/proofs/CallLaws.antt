@@ -1,7 +1,7 @@
 -- One call, case by case: a refusal that is held, a state that is not possible, and a run, with a stop at its end or none, for which a possible
 -- state is ready.
 -- Assumes nothing.
-use Rattle.std.proofs.Common.{◌≡◌, ℕ, ◌+◌, ◌-◌, ◌^◌, ◌<◌, ◌≤◌, Bool, true, false, eqb, leb, List, length, get_or, take, refl, ap, arith, length-take, eq-eqb, ne_eqb, eqb_true, leb-true}
+use Rattle.std.proofs.Common.{◌≡◌, ℕ, ◌+◌, ◌-◌, ◌^◌, ◌<◌, ◌≤◌, Bool, true, false, eqb, leb, List, length, get_or, take, refl, ap, arith, length-take, eq-eqb, ne_eqb, eqb-true, leb-true}
 use Rattle.text.specs.Choice.{pick, no}
 use Rattle.text.specs.Line.{line_number}
 use Rattle.text.specs.Expected.{lf}
@@ -62,7 +62,7 @@ tested s lengths h state e =
     let none = both_true (no (holds_empty (held state))) _ once.1 in
     let into = both_true (can_be_into least_blocks s (terms_of lengths h) state.at state.into) _ holds.1 in
     let ready = both_true (can_be_ready least_blocks s (terms_of lengths h) state.at (held state) state.ready) _ into.1 in
-    let line = eqb_true state.line (line_number s state.at) ended.1 in
+    let line = eqb-true state.line (line_number s state.at) ended.1 in
     record {
       at = leb-true state.at (length s) within.0;
       line = omega (arith, line_number-most s state.at);
@@ -83,7 +83,7 @@ module _ (s : List ℕ) (p : Config) where
       let lengths = lengths_at s p.areas in
       let a = both_true (same_lengths p.state.lengths lengths) _ e in
       let b = both_true (eqb (start_refusal s lengths).number none) _ a.1 in
-      let o = start_none s lengths (eqb_true (start_refusal s lengths).number none b.0) in
+      let o = start_none s lengths (eqb-true (start_refusal s lengths).number none b.0) in
       let t = tested s lengths o.header p.state (rw o.read at b.1) in
       rw (terms-read s lengths o.read) record {
         list = o.list;

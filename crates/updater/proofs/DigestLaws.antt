@@ -1,10 +1,10 @@
 -- The digest of an area's blocks, taken in block by block.
 -- Assumes nothing.
 use Rattle.std.proofs.Common.{◌≡◌, ℕ, ◌+◌, ◌*◌, ◌/◌, ◌^◌, ◌<◌, ◌≤◌, List, [], ◌∷◌, length, arith}
-use Rattle.sha1.specs.Sha1.{sha1}
-use Rattle.sha1.specs.Pieces.{started, absorbed, finished}
-use Rattle.sha1.specs.declared.Hasher.{Hasher}
-use Rattle.sha1.proofs.DigestLaws.{absorbed-empty, absorbed-join, finished-absorbed}
+use Rattle.sha1_digest.specs.Sha1.{sha1}
+use Rattle.sha1_digest.specs.Pieces.{started, absorbed, finished}
+use Rattle.sha1_digest.specs.declared.Hasher.{Hasher}
+use Rattle.sha1_digest.proofs.DigestLaws.{absorbed-empty, absorbed-join, finished-absorbed}
 use Rattle.ranges.specs.Walk.{AllBelow}
 use Rattle.state.specs.Limits.{block_bytes}
 use Rattle.updater.specs.Bytes.{block_at, gathered}

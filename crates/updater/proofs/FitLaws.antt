@@ -1,7 +1,7 @@
 -- The machine that runs a list is sound on configurations that fit: each step keeps them fitting, and each step without a byte moves on or
 -- refuses. And the bytes taken in all: only the step by a byte counts one.
 -- Assumes nothing.
-use Rattle.std.proofs.Common.{◌≡◌, ℕ, ◌+◌, ◌-◌, ◌%◌, ◌^◌, ◌<◌, ◌≤◌, Bool, true, false, eqb, leb, List, length, refl, mod-lt, arith, length-set, eq-eqb, ne_eqb, eqb_true, leb-false}
+use Rattle.std.proofs.Common.{◌≡◌, ℕ, ◌+◌, ◌-◌, ◌%◌, ◌^◌, ◌<◌, ◌≤◌, Bool, true, false, eqb, leb, List, length, refl, mod-lt, arith, length-set, eq-eqb, ne_eqb, eqb-true, leb-false}
 use borrow.Author.Tests.{eqb-false}
 use Rattle.text.specs.Choice.{pick, no}
 use Rattle.text.proofs.ChoiceLaws.{picks, either_false, either_is, no_false}
@@ -240,7 +240,7 @@ unfolding is_stopped
 not_stopped s p e =
     let b = either_false (no (eqb p.state.refusal.number none)) (leb (length s) p.state.at) e in
     record {
-      unrefused = eqb_true p.state.refusal.number none (no_false (eqb p.state.refusal.number none) b.0);
+      unrefused = eqb-true p.state.refusal.number none (no_false (eqb p.state.refusal.number none) b.0);
       within = leb-false (length s) p.state.at b.1;
     }
 
@@ -250,7 +250,7 @@ module _ (s : List ℕ) (terms : Terms) (p : Config) (f : Fits s terms p) where
   step-quiet h =
       let number = refusal_here least_blocks s terms p in
       picks (StepKeeps s terms p) (eqb number none) _ _
-      (λ t. step_after s terms p f h (eqb_true number none t))
+      (λ t. step_after s terms p f h (eqb-true number none t))
       (λ t. step-refused s terms p f h p.areas number (fault_here least_blocks s p) (lengths_refl p.areas) (eqb-false number none t))
 
   pub quiet-lengths : p.state.at < length s → SameLengths p.areas (quiet_step least_blocks s terms p).areas

@@ -1,7 +1,7 @@
 -- Laws of one step of a command: that a stretch lies among what is held and every area keeps its length, the step by its cases, and the
 -- numbers that it can be refused with.
 -- Assumes nothing.
-use Rattle.std.proofs.Common.{◌≡◌, ℕ, ◌+◌, ◌-◌, ◌*◌, ◌≤◌, Bool, true, false, eqb, List, length, take, sym, refl, ◌∙◌, subst, ⊎_elim, arith, eq-eqb, ne_eqb, eqb_true}
+use Rattle.std.proofs.Common.{◌≡◌, ℕ, ◌+◌, ◌-◌, ◌*◌, ◌≤◌, Bool, true, false, eqb, List, length, take, sym, refl, ◌∙◌, subst, ⊎_elim, arith, eq-eqb, ne_eqb, eqb-true}
 use Rattle.text.specs.Choice.{pick, either}
 use Rattle.text.proofs.ChoiceLaws.{picks, either_true}
 use Rattle.ranges.specs.Walk.{blocks_at}
@@ -43,7 +43,7 @@ module _ (xs : List Stash) (j k : ℕ) where
   stretches-before : MayStretch xs j k → (k * size_at xs j ≤ younger xs j) × (k ≤ younger xs j)
   stretches-before h =
       ⊎_elim
-      (λ z. let e = eqb_true k 0 z in (rw e (omega arith), omega arith))
+      (λ z. let e = eqb-true k 0 z in (rw e (omega arith), omega arith))
       (λ s.
       let m = stretch_some (size_at xs j) (younger xs j) k s in
       let f = stretch_few (size_at xs j) (younger xs j) k s in

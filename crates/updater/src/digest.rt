@@ -5,7 +5,7 @@ ghost use Rattle.state.specs.Limits.{block_bytes};
 ghost use Rattle.updater.specs.Source.{hashes_to, blocks_hash_to};
 
 use ranges::walk::{Step, next_block, walk_from};
-use sha1::{absorb, digest, finish, start};
+use sha1_digest::{absorb, digest, finish, start};
 use state::limits::{BLOCK_BYTES, HASH_BYTES};
 use state::stashes::same_hash;
 

@@ -2,9 +2,9 @@
 -- start does; they are within the image.
 -- Assumes nothing.
 use Rattle.std.proofs.Common.{◌≡◌, ℕ, ◌+◌, ◌-◌, ◌*◌, ◌/◌, ◌^◌, ◌<◌, ◌≤◌, List, [], ◌∷◌, length, take, drop, sym, ap, ◌∙◌, subst, arith, rules}
-use Rattle.sha1.specs.Pieces.{started, absorbed, finished}
-use Rattle.sha1.specs.declared.Hasher.{Hasher}
-use Rattle.sha1.proofs.DigestLaws.{absorbed-count, started-empty}
+use Rattle.sha1_digest.specs.Pieces.{started, absorbed, finished}
+use Rattle.sha1_digest.specs.declared.Hasher.{Hasher}
+use Rattle.sha1_digest.proofs.DigestLaws.{absorbed-count, started-empty}
 use Rattle.ranges.specs.Walk.{blocks_at, remaining, AllBelow}
 use Rattle.ranges.proofs.WalkLaws.{walk-done, walk_block}
 use Rattle.state.specs.Limits.{block_bytes}

@@ -27,9 +27,9 @@ blocks_at_lem t b n {k} {r} e f l =
     rw (q, ltb_bounded (blocks_held (held_in t) + b) n l)
 
 pub returns-then-terms-held_count : goal.returns-then-terms-held_count
-returns-then-terms-held_count c hashes = rw (full_at ((let a = c.args in table_at hashes a.sizes.now a.count)) c.held_count.ensures c.if-terms-held_count.true)
+returns-then-terms-held_count c hashes = rw (full_at (table_at hashes c.args.sizes.now c.args.count) c.held_count.ensures c.if-terms-held_count.true)
 
 pub returns : goal.returns
 returns c hashes =
-    rw (room_at ((let a = c.args in table_at hashes a.sizes.now a.count)) c.held_count.ensures c.if-terms-held_count.false)
-    (blocks_at_lem ((let a = c.args in table_at hashes a.sizes.now a.count)) _ _ (c.blocks_before.ensures hashes) c.bounded_sum.ensures (omega arith))
+    rw (room_at (table_at hashes c.args.sizes.now c.args.count) c.held_count.ensures c.if-terms-held_count.false)
+    (blocks_at_lem (table_at hashes c.args.sizes.now c.args.count) _ _ (c.blocks_before.ensures hashes) c.bounded_sum.ensures (omega arith))

@@ -3,11 +3,8 @@ use mathlib.Core.Path.{refl, sym, ◌∙◌}
 use native.Mathlib.Omega.{arith}
 use borrow.Author.Tests.{eq-eqb, ne_eqb}
 use lib.ListN.{get_or}
-use Rattle.state.proofs.StashLaws.{same_next, same_end, same_lengths_lem}
+use Rattle.state.proofs.StashLaws.{same_next, same_end}
 use Rattle.state.proofs.stashes.same_hash.Goals as goal
-
-pub returns-then-a-b : goal.returns-then-a-b
-returns-then-a-b c = sym (same_lengths_lem _ _ (λ e. omega arith))
 
 pub loop-i-init : goal.loop-i-init
 loop-i-init c = (omega arith, refl)

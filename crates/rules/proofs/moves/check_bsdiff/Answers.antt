@@ -1,9 +1,8 @@
--- `rules::moves::check_bsdiff` meets its contract: 8 to 12 first, and 18 where none of them is given. Assumes nothing.
-use mathlib.Core.Path.{◌≡◌, refl}
+-- `rules::moves::check_bsdiff` meets its contract: 8 to 12 first, and 18 where none of them is given.
+use mathlib.Core.Path.{◌≡◌}
 use mathlib.Core.Bool.{Bool, true, false}
 use Prim.Native.Nat.{ℕ}
-use mathlib.Core.List.{List, []}
-use borrow.Author.Rules.{rules}
+use mathlib.Core.List.{List}
 use borrow.Author.Tests.{eq-eqb, ne_eqb}
 use Rattle.state.specs.Refusals.{none, past_patch}
 use Rattle.state.specs.Stashes.{Stash}
@@ -13,8 +12,7 @@ use Rattle.command.specs.Patching.{patching_of}
 use Rattle.command.specs.declared.patching.Patching.{Patching}
 use Rattle.rules.specs.declared.Terms.{Terms}
 use Rattle.rules.specs.Move.{sourced_refusal, over_result, patch_past, bsdiff_refusal}
-use Rattle.rules.proofs.moves.check_bsdiff.Statement.{statement}
-use Rattle.rules.proofs.moves.check_bsdiff.Tie as tie
+use Rattle.rules.proofs.moves.check_bsdiff.Goals as goal
 
 module _ (l : List ℕ) (terms : Terms) (held : List Stash) (target : RangeSet) (n : ℕ) (source : Source) {number : ℕ}
     (is : number ≡ sourced_refusal l terms held (over_result terms target) false target n source) where
@@ -31,13 +29,11 @@ module _ (l : List ℕ) (terms : Terms) (held : List Stash) (target : RangeSet) 
     unfolding bsdiff_refusal
     refused-nowhere t = rw (← is, eq-eqb number none e, ← read, ← p, t)
 
-pub check-bsdiff-spec : {M : Type 1} → statement M
-check-bsdiff-spec =
-    tie.close
-    (tie.spec
-    (λ c κs. search rules)
-    (λ c. search refused-before)
-    (λ c κs. search rules)
-    (λ c κs. search rules)
-    (λ c. search refused-last)
-    (λ c. search refused-nowhere))
+pub returns-then-refusal-ne0 : goal.returns-then-refusal-ne0
+returns-then-refusal-ne0 c = search refused-before
+
+pub returns-then-is_past_patch : goal.returns-then-is_past_patch
+returns-then-is_past_patch c = search refused-last
+
+pub returns : goal.returns
+returns c = search refused-nowhere

@@ -1,7 +1,7 @@
--- `rules::moves::source_differs` meets its contract: each test picks the case of `source_differs`. Assumes nothing.
+-- `rules::moves::source_differs` meets its contract: each test picks the case of `source_differs`.
 use Prim.Native.Nat.{ℕ, ◌+◌, ◌<◌}
-use mathlib.Core.Path.{◌≡◌, refl, sym, ap, ◌∙◌}
-use mathlib.Core.Bool.{Bool, true, false, not}
+use mathlib.Core.Path.{◌≡◌, sym, ap, ◌∙◌}
+use mathlib.Core.Bool.{not}
 use mathlib.Core.List.{List}
 use native.Mathlib.Omega.{arith}
 use lib.Dec.{eqb}
@@ -16,10 +16,8 @@ use Rattle.command.specs.declared.source.Source.TheVariants.{Stashes, Both}
 use Rattle.rules.specs.declared.moves.Sums.{Sums}
 use Rattle.rules.specs.Move.{uses_by, some_differ, places_named, source_differs}
 use Rattle.rules.specs.Sums.{sums_of}
-use borrow.Author.Rules.{rules}
 use Rattle.rules.proofs.BoundLaws.{not-no, eqb_bounded}
-use Rattle.rules.proofs.moves.source_differs.Statement.{statement}
-use Rattle.rules.proofs.moves.source_differs.Tie as tie
+use Rattle.rules.proofs.moves.source_differs.Goals as goal
 
 unequal : (m : ℕ) {r n : ℕ} → r ≡ bounded m → n < bound → not (eqb r n) ≡ no (eqb m n)
 unequal m {n = n} e l = rw (e, eqb_bounded m n l) (not-no (eqb m n))
@@ -46,67 +44,40 @@ module _ (l : List ℕ) (held : List Stash) {source : Source} {sums : Sums} (e :
   unfolding uses_by
   by_both q = told held (uses_at l first) (e ∙ ap (λ (s : Source). sums_of held (uses_by l s)) q)
 
-enum-known-source : tie.Need-enum-known-source
-enum-known-source c = search rules
-
-enum_told : tie.Need-enum-told
-enum_told c = search rules
-
-returns : tie.Need-returns
+pub returns-then-sums : goal.returns-then-sums
 unfolding source_differs
-returns c l held e w =
-    let q = c.before.enum_told.given.1 in
-    rw (q, sym (by_stashes l held e q).differs ∙ c.if1.taken)
+returns-then-sums c l held e w =
+    let q = c.in-Stashes.is in
+    rw (q, sym (by_stashes l held e q).differs ∙ c.if-sums.true)
 
-enum-known-source-2 : tie.Need-enum-known-source-2
-enum-known-source-2 c = search rules
-
-returns-2 : tie.Need-returns-2
+pub returns-then-blocks-places : goal.returns-then-blocks-places
 unfolding source_differs
-returns-2 c l held e w = rw (c.before.before.before.before.source2.given.1, ne_eqb _ _ c.if2.taken)
+returns-then-blocks-places c l held e w = rw (c.in-Both.is, ne_eqb _ _ c.if-blocks-places.true)
 
-returns-3 : tie.Need-returns-3
+pub returns-then-sums-2 : goal.returns-then-sums-2
 unfolding source_differs
-returns-3 c l held e w =
-    let q = c.before.before.before.before.before.source2.given.1 in
-    rw (q, eq-eqb _ _ c.before.if2.left, sym (by_both l held e q).differs ∙ c.if3.taken)
+returns-then-sums-2 c l held e w =
+    let q = c.in-Both.is in
+    rw (q, eq-eqb _ _ c.if-blocks-places.false, sym (by_both l held e q).differs ∙ c.if-sums-2.true)
 
-bounded-sum-requires : tie.Need-bounded-sum-requires
-bounded-sum-requires c κs = search rules
-
-returns-4 : tie.Need-returns-4
+pub returns-in-Blocks : goal.returns-in-Blocks
 unfolding source_differs
-returns-4 c l held e w =
-    rw c.before.before.source.given.1
-    (not-no (eqb c.before.before.source.given.0.0.blocks c.before.before.before.before.args.n))
+returns-in-Blocks c l held e w =
+    rw c.in-Blocks.is
+    (not-no (eqb c.in-Blocks.set.blocks c.args.n))
 
-returns-5 : tie.Need-returns-5
+pub returns-else-sums : goal.returns-else-sums
 unfolding source_differs
-returns-5 c l held e w =
-    let q = c.before.before.enum_told.given.1 in
+returns-else-sums c l held e w =
+    let q = c.in-Stashes.is in
     let t = by_stashes l held e q in
-    rw (q, sym t.differs ∙ c.before.if1.left) (unequal _ t.places w)
+    rw (q, sym t.differs ∙ c.if-sums.false) (unequal _ t.places w)
 
-returns-6 : tie.Need-returns-6
+pub returns-else-sums-2 : goal.returns-else-sums-2
 unfolding source_differs
-returns-6 c l held e w =
-    let s = c.before.before.before.before.before.before.source2.given in
-    let t = by_both l held e s.1 in
-    let n = s.0.1.0.blocks in
-    rw (s.1, eq-eqb _ _ c.before.before.if2.left, sym t.differs ∙ c.before.if3.left)
-    (unequal _ (more n _ t.places c.bounded-sum.ensures) w)
-
-pub source-differs-spec : {M : Type 1} → statement M
-source-differs-spec =
-    tie.close
-    (tie.spec
-    enum-known-source
-    enum_told
-    returns
-    enum-known-source-2
-    returns-2
-    returns-3
-    bounded-sum-requires
-    returns-4
-    returns-5
-    returns-6)
+returns-else-sums-2 c l held e w =
+    let q = c.in-Both.is in
+    let t = by_both l held e q in
+    let n = c.in-Both.places.blocks in
+    rw (q, eq-eqb _ _ c.if-blocks-places.false, sym t.differs ∙ c.if-sums-2.false)
+    (unequal _ (more n _ t.places c.bounded_sum.ensures) w)

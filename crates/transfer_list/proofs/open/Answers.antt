@@ -1,10 +1,8 @@
 -- `open` meets its contract: the state of a refused opening, or that of an accepted one.
--- Assumes nothing.
 use mathlib.Core.Path.{◌≡◌, sym, ap, ◌∙◌}
 use mathlib.Core.List.{List}
 use Prim.Native.Nat.{ℕ}
 use native.Mathlib.Omega.{arith}
-use borrow.Author.Rules.{rules}
 use borrow.Author.Tests.{ne_eqb}
 use Rattle.ranges.specs.Ranges.{least_blocks}
 use Rattle.state.specs.Refusals.{none}
@@ -17,8 +15,7 @@ use Rattle.transfer_list.specs.Opening.{open_refusal, first_at, accepted_state, 
 use Rattle.transfer_list.specs.declared.header.Header.{Header}
 use Rattle.transfer_list.specs.declared.header.HeaderRead.{HeaderRead}
 use Rattle.transfer_list.specs.declared.header.HeaderRead.TheVariants.{Good, Bad}
-use Rattle.transfer_list.proofs.open.Statement.{statement}
-use Rattle.transfer_list.proofs.open.Tie as tie
+use Rattle.transfer_list.proofs.open.Goals as goal
 
 -- what `open_state` says, by cases
 module _ (s : List ℕ) (lengths : Lengths) {r : Refusal} {t : State} (e : r ≡ open_refusal least_blocks s lengths) where
@@ -42,47 +39,11 @@ module _ (s : List ℕ) (lengths : Lengths) {r : Refusal} {t : State} (e : r ≡
     unfolding first_at
     accepted-bad q g = accepted (rw q g)
 
-check-list-requires : tie.Need-check-list-requires
-check-list-requires c κs = search rules
+pub returns-then-refusal-ne0 : goal.returns-then-refusal-ne0
+returns-then-refusal-ne0 c = refused _ _ c.check_list-refusal.ensures (omega arith) c.state_at.ensures
 
-state-at-requires : tie.Need-state-at-requires
-state-at-requires c κs = search rules
+pub returns-in-Bad : goal.returns-in-Bad
+returns-in-Bad c = accepted-bad _ _ c.check_list-refusal.ensures (omega arith) c.read_header.ensures c.in-Bad.is c.state_at-in-Bad.ensures
 
-returns : tie.Need-returns
-returns c = refused _ _ c.before.before.before.check-list.ensures (omega arith) c.state-at.ensures
-
-read-header-requires : tie.Need-read-header-requires
-read-header-requires c κs = search rules
-
-enum_told : tie.Need-enum-told
-enum_told c = search rules
-
-state-at-requires-2 : tie.Need-state-at-requires-2
-state-at-requires-2 c κs = search rules
-
-enum-known-h : tie.Need-enum-known-h
-enum-known-h c = search rules
-
-state-at-requires-3 : tie.Need-state-at-requires-3
-state-at-requires-3 c κs = search rules
-
-returns-2 : tie.Need-returns-2
-returns-2 c = accepted-bad _ _ c.before.before.before.before.before.before.check-list.ensures (omega arith) c.before.before.before.read-header.ensures c.before.enum_told.given.1 c.state-at2.ensures
-
-returns-3 : tie.Need-returns-3
-returns-3 c = accepted-good _ _ c.before.before.before.before.before.before.before.check-list.ensures (omega arith) c.before.before.before.before.read-header.ensures c.before.before.h.given.1 c.state-at3.ensures
-
-pub open_spec : {M : Type 1} → statement M
-open_spec =
-    tie.close
-    (tie.spec
-    check-list-requires
-    state-at-requires
-    returns
-    read-header-requires
-    enum_told
-    state-at-requires-2
-    enum-known-h
-    state-at-requires-3
-    returns-2
-    returns-3)
+pub returns-in-Good : goal.returns-in-Good
+returns-in-Good c = accepted-good _ _ c.check_list-refusal.ensures (omega arith) c.read_header.ensures c.in-Good.is c.state_at-in-Good.ensures

@@ -1,10 +1,8 @@
 -- `check_list` meets its contract: what is refused before the command lines, or else what they are refused for.
--- Assumes nothing.
 use mathlib.Core.Path.{◌≡◌, sym, ap, ◌∙◌}
 use mathlib.Core.List.{List, []}
 use Prim.Native.Nat.{ℕ, suc, ◌≤◌}
 use native.Mathlib.Omega.{arith}
-use borrow.Author.Rules.{rules}
 use borrow.Author.Tests.{ne_eqb}
 use lib.ListN.{length}
 use Rattle.ranges.specs.Ranges.{least_blocks}
@@ -20,8 +18,7 @@ use Rattle.transfer_list.specs.declared.header.Header.{Header}
 use Rattle.transfer_list.specs.declared.header.HeaderRead.{HeaderRead}
 use Rattle.transfer_list.specs.declared.header.HeaderRead.TheVariants.{Good, Bad}
 use Rattle.transfer_list.proofs.HeaderLaws.{same-header, start_none}
-use Rattle.transfer_list.proofs.check_list.Statement.{statement}
-use Rattle.transfer_list.proofs.check_list.Tie as tie
+use Rattle.transfer_list.proofs.check_list.Goals as goal
 
 -- what `open_refusal` says, by cases
 module _ (s : List ℕ) (lengths : Lengths) {start : Refusal} (e : start ≡ start_refusal s lengths) where
@@ -48,43 +45,14 @@ module _ (s : List ℕ) (lengths : Lengths) {start : Refusal} (e : start ≡ sta
       unfolding open_refusal commands_refusal
       lines-refused l = rw (started, sym f ∙ g) (l ∙ rw k)
 
-check-start-requires : tie.Need-check-start-requires
-check-start-requires c κs = search rules
+pub returns-then-start-ne0 : goal.returns-then-start-ne0
+returns-then-start-ne0 c = start-refused _ _ c.check_start-start.ensures (omega arith)
 
-returns : tie.Need-returns
-returns c = start-refused _ _ c.before.before.check-start.ensures (omega arith)
+pub check_lines-requires : goal.check_lines-requires
+check_lines-requires c = lines-ready _ _ c.check_start-start.ensures (omega arith) c.read_header.ensures c.in-Good.is c.terms_of.ensures
 
-read-header-requires : tie.Need-read-header-requires
-read-header-requires c κs = search rules
+pub returns-in-Bad : goal.returns-in-Bad
+returns-in-Bad c = no_header _ _ c.check_start-start.ensures (omega arith) c.read_header.ensures c.in-Bad.is
 
-enum_told : tie.Need-enum-told
-enum_told c = search rules
-
-enum-known-h : tie.Need-enum-known-h
-enum-known-h c = search rules
-
-terms-of-requires : tie.Need-terms-of-requires
-terms-of-requires c κs = search rules
-
-check-lines-requires : tie.Need-check-lines-requires
-check-lines-requires c κs = lines-ready _ _ c.before.before.before.before.before.before.before.check-start.ensures (omega arith) c.before.before.before.before.read-header.ensures c.before.before.h.given.1 c.terms-of.ensures
-
-returns-2 : tie.Need-returns-2
-returns-2 c = no_header _ _ c.before.before.before.before.before.check-start.ensures (omega arith) c.before.before.read-header.ensures c.enum_told.given.1
-
-returns-3 : tie.Need-returns-3
-returns-3 c = lines-refused _ _ c.before.before.before.before.before.before.before.before.check-start.ensures (omega arith) c.before.before.before.before.before.read-header.ensures c.before.before.before.h.given.1 c.before.terms-of.ensures c.check-lines.ensures
-
-pub check-list-spec : {M : Type 1} → statement M
-check-list-spec =
-    tie.close
-    (tie.spec
-    check-start-requires
-    returns
-    read-header-requires
-    enum_told
-    enum-known-h
-    terms-of-requires
-    check-lines-requires
-    returns-2
-    returns-3)
+pub returns-in-Good : goal.returns-in-Good
+returns-in-Good c = lines-refused _ _ c.check_start-start.ensures (omega arith) c.read_header.ensures c.in-Good.is c.terms_of.ensures c.check_lines.ensures

@@ -1,10 +1,9 @@
--- `possible::can_be_ready` meets its contract: the mark, the line's refusal and its command are the parts of `can_be_ready`.
--- Assumes nothing.
+-- `possible::can_be_ready` meets its contract: the mark, the line's refusal and its command are the parts of
+-- `can_be_ready`.
 use Prim.Native.Nat.{ℕ}
 use mathlib.Core.Bool.{Bool, false}
 use mathlib.Core.List.{List}
 use mathlib.Core.Path.{◌≡◌, ap, ◌∙◌}
-use borrow.Author.Rules.{rules}
 use borrow.Author.Tests.{eq-eqb, ne_eqb}
 use Rattle.text.specs.Line.{line_at}
 use Rattle.ranges.specs.Ranges.{least_blocks}
@@ -15,8 +14,7 @@ use Rattle.rules.specs.Rules.{checked_of}
 use Rattle.rules.specs.declared.Checked.{Checked}
 use Rattle.rules.specs.declared.Terms.{Terms}
 use Rattle.possible.specs.Possible.{can_be_ready}
-use Rattle.possible.proofs.can_be_ready.Statement.{statement}
-use Rattle.possible.proofs.can_be_ready.Tie as tie
+use Rattle.possible.proofs.can_be_ready.Goals as goal
 
 -- a ready mark goes by the line as it was checked
 module _ (s : List ℕ) (terms : Terms) (at : ℕ) (held : List Stash) (ready : ℕ) {l : List ℕ} {checked : Checked} (marked : ready ≡ 0 → ⊥)
@@ -31,37 +29,14 @@ module _ (s : List ℕ) (terms : Terms) (at : ℕ) (held : List Stash) (ready : 
       rw (ne_eqb ready 0 marked, ← line, ← ap (λ (k : Checked). k.refusal) is, eq-eqb checked.refusal none r)
       (e ∙ ap (λ (k : Checked). fills k.line.command) is)
 
--- the stashes held, from past the first test
-abbrev stashes : tie.Else1 → List Stash
-stashes c = let a = c.before.before.args in held_in (table_at a.hashes.now a.sizes.now a.count)
-
-returns : tie.Need-returns
+pub returns-then-ready-eq0 : goal.returns-then-ready-eq0
 unfolding can_be_ready
-returns c = rw (eq-eqb _ _ c.if1.taken)
+returns-then-ready-eq0 c = rw (eq-eqb _ _ c.if-ready-eq0.true)
 
-line-at-requires : tie.Need-line-at-requires
-line-at-requires c κs = search rules
+pub returns-then-checked-ne0 : goal.returns-then-checked-ne0
+returns-then-checked-ne0 c =
+    refused _ _ _ (held_in (table_at c.args.hashes.now c.args.sizes.now c.args.count)) _ c.if-ready-eq0.false c.line_at.ensures c.check_line-checked.ensures c.if-checked-ne0.true
 
-check-line-requires : tie.Need-check-line-requires
-check-line-requires c κs = search rules
-
-returns-2 : tie.Need-returns-2
-returns-2 c =
-    let k = c.before.before in
-    let l = k.before.before in
-    refused _ _ _ (stashes l.before) _ l.before.if1.left l.line_at_lem.ensures k.check-line.ensures c.if2.taken
-
-fills-requires : tie.Need-fills-requires
-fills-requires c κs = search rules
-
-returns-3 : tie.Need-returns-3
-returns-3 c =
-    let e = c.before.before in
-    let k = e.before.before in
-    let l = k.before.before in
-    unrefused _ _ _ (stashes l.before) _ l.before.if1.left l.line_at_lem.ensures k.check-line.ensures e.if2.left c.fills.ensures
-
-pub can-be-ready-spec : {M : Type 1} → statement M
-can-be-ready-spec =
-    tie.close
-    (tie.spec returns line-at-requires check-line-requires returns-2 fills-requires returns-3)
+pub returns : goal.returns
+returns c =
+    unrefused _ _ _ (held_in (table_at c.args.hashes.now c.args.sizes.now c.args.count)) _ c.if-ready-eq0.false c.line_at.ensures c.check_line-checked.ensures c.if-checked-ne0.false c.fills.ensures

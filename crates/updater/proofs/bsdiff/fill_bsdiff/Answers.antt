@@ -1,0 +1,28 @@
+-- `fill_bsdiff` meets its contract: the source goes into the work area and, if its hash is the given one, is patched
+-- from there.
+use Rattle.std.proofs.Common.{arith}
+use Rattle.state.specs.Stashes.{table_at, held_in}
+use Rattle.updater.specs.Areas.{areas_of}
+use Rattle.updater.proofs.EffectLaws.{bsdiff_differs, bsdiff_goes}
+use Rattle.updater.proofs.bsdiff.fill_bsdiff.Goals as goal
+
+pub returns-then-not-has_hash : goal.returns-then-not-has_hash
+returns-then-not-has_hash c =
+    let a = c.args in
+    bsdiff_differs a.l.now ((held_in (table_at c.args.hashes.now c.args.sizes.now c.args.count))) a.hash ((areas_of c.args.image.now c.args.stash.now c.args.work.now c.args.res.now c.args.patch.now)) a.n a.source c.put_together.ensures c.has_hash.ensures
+    a.target
+    c.if-not-has_hash.true
+
+pub patch_source-requires : goal.patch_source-requires
+patch_source-requires c =
+    let r = c.requires.bsdiff_runs.patched in
+    record { n_in_bounds = (omega (arith, r.room, c.put_together.auto.work), r.holds); length_in_bounds = rw c.read_patching-patching.ensures r.within }
+
+pub returns : goal.returns
+returns c =
+    let a = c.args in
+    bsdiff_goes a.l.now ((held_in (table_at c.args.hashes.now c.args.sizes.now c.args.count))) a.hash ((areas_of c.args.image.now c.args.stash.now c.args.work.now c.args.res.now c.args.patch.now)) a.n a.source c.put_together.ensures c.has_hash.ensures
+    a.target
+    c.if-not-has_hash.false
+    c.read_patching-patching.ensures
+    (c.patch_source.ensures a.image.now a.stash.now)

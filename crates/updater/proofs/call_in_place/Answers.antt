@@ -1,13 +1,10 @@
 -- `call_in_place` meets its contract: a refusal that is held, a state that is not possible, or a run, with a stop or
 -- without.
-use Rattle.std.proofs.Common.{◌≡◌, ◌^◌, ◌<◌, true, length, sym, ◌∙◌, arith}
-use Rattle.ranges.specs.Ranges.{least_blocks}
+use Rattle.std.proofs.Common.{◌≡◌, ◌^◌, ◌<◌, length, sym, ◌∙◌, arith}
 use Rattle.state.specs.Limits.{table_bytes, most_stashes}
 use Rattle.state.specs.States.{state_with}
-use Rattle.possible.specs.Possible.{is_possible}
 use Rattle.updater.specs.Areas.{areas_of}
 use Rattle.updater.specs.Steps.{Config, config_of}
-use Rattle.updater.specs.Calls.{lengths_at}
 use Rattle.updater.proofs.CallLaws.{possible-fits, held-call, impossible_call, stop-call, run_call}
 use Rattle.updater.proofs.call_in_place.Goals as goal
 use Rattle.updater.proofs.call_in_place.Goals.{After-run_lines-ran, Start}

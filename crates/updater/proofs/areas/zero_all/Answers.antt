@@ -1,5 +1,5 @@
 -- `zero_all` meets its contract.
-use Rattle.std.proofs.Common.{◌≡◌, ℕ, ◌-◌, ◌<◌, length, replicate, refl, ◌∙◌, append-nil, add-one, arith, length-set, take_all}
+use Rattle.std.proofs.Common.{◌≡◌, ℕ, ◌<◌, length, replicate, refl, ◌∙◌, append-nil, add-one, arith, length-set, take_all}
 use lib.ListN.{length-replicate, get_or-replicate}
 use lib.Seq.{drop-length}
 use Rattle.copy.proofs.OverLaws.{front-more}

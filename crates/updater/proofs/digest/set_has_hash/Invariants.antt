@@ -1,6 +1,6 @@
 -- The loop's invariant: taking in the blocks that are left comes to what taking in all of them from the start does;
 -- they are within the image.
-use Rattle.std.proofs.Common.{◌≡◌, ◌-◌, ◌/◌, ◌^◌, ◌<◌, length}
+use Rattle.std.proofs.Common.{◌≡◌, ◌/◌, ◌^◌, ◌<◌, length}
 use Rattle.sha1_digest.specs.Pieces.{started, absorbed}
 use Rattle.ranges.specs.Walk.{blocks_at, remaining, AllBelow}
 use Rattle.state.specs.Limits.{block_bytes}

@@ -1,8 +1,6 @@
 -- `take_new` meets its contract.
-use Rattle.std.proofs.Common.{◌≡◌, ◌+◌, ◌*◌, ◌<◌, length, sym, ap, ◌∙◌, arith}
-use Rattle.ranges.specs.Ranges.{least_again, pair_at}
+use Rattle.std.proofs.Common.{◌+◌, ◌*◌, ◌<◌, length, sym, ap, ◌∙◌, arith}
 use Rattle.ranges.specs.Walk.{blocks_at}
-use Rattle.ranges.specs.declared.Pair.TheVariants as pair
 use Rattle.ranges.proofs.RangesLaws.{pair_order}
 use Rattle.state.specs.Limits.{block_bytes}
 use Rattle.updater.proofs.NewLaws.{blocks-none, blocks-bad, blocks_end, went_none, went_one, went_on, went_length, steps}
@@ -65,15 +63,15 @@ pub ranges-2-preserved : goal.ranges-2-preserved
 ranges-2-preserved c =
     let i = c.ranges-2.invariant in
     elim c.if-skip-size.branch [
-    | then-skip-size+else-loop-k-test w ↦
-      rw (w.image-is, w.i-is, w.skip-is)
-      (record { went = went_on i.went w.loop-k.invariant.went; ahead = ahead_past w.loop-k.invariant.inside w.loop-k-test.false })
-    | else-skip-size w ↦
-      rw (w.image-is, w.i-is, w.skip-is)
-      (record {
-        went = i.went;
-        ahead = ahead_skip i.ahead c.ranges-2-test.true (sym c.read_pair.ensures ∙ c.in-Good-read_pair.is) w.if-skip-size.false;
-      })
+      | then-skip-size+else-loop-k-test w ↦
+          rw (w.image-is, w.i-is, w.skip-is)
+          (record { went = went_on i.went w.loop-k.invariant.went; ahead = ahead_past w.loop-k.invariant.inside w.loop-k-test.false })
+      | else-skip-size w ↦
+          rw (w.image-is, w.i-is, w.skip-is)
+          (record {
+            went = i.went;
+            ahead = ahead_skip i.ahead c.ranges-2-test.true (sym c.read_pair.ensures ∙ c.in-Good-read_pair.is) w.if-skip-size.false;
+          })
     ]
 
 pub returns-after-ranges-2-clause-value : goal.returns-after-ranges-2-clause-value

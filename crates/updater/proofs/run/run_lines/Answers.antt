@@ -1,9 +1,6 @@
 -- `run_lines` meets its contract: each turn of the loop is a step of the machine, or the bytes of a `new` and a step.
-use Rattle.std.proofs.Common.{◌≡◌, ◌-◌, ◌^◌, ◌<◌, length, sym, refl, ◌∙◌, arith}
-use Rattle.state.specs.Refusals.{none}
+use Rattle.std.proofs.Common.{◌-◌, ◌^◌, ◌<◌, length, sym, refl, ◌∙◌, arith}
 use Rattle.state.specs.States.{state_with}
-use Rattle.command.specs.Targets.{new_target}
-use Rattle.command.specs.declared.targets.NewTarget.TheVariants as new
 use Rattle.updater.specs.Areas.{areas_of}
 use Rattle.updater.specs.Steps.{Config, config_of}
 use Rattle.updater.proofs.RunnableLaws.{next-line, next_stretch}
@@ -100,8 +97,7 @@ run_step-end-requires-clause-command_value c =
 
 pub after_step-went-requires : goal.after_step-went-requires
 after_step-went-requires c =
-    let f = c.lines.invariant.runs.keeps in
-    (
+    let f = c.lines.invariant.runs.keeps in (
       checked-at f (checks (goal.at.after_step-went-requires c).After-check_line-checked),
       next-line _ _ _ f,
       next_stretch _ _ _ f,

@@ -1,6 +1,6 @@
 -- The loop's invariant: writing the bytes from k on to the blocks that are left leaves what writing all of them does;
 -- there are bytes enough, and the blocks are within the image, whose length is as it was.
-use Rattle.std.proofs.Common.{◌≡◌, ◌+◌, ◌-◌, ◌*◌, ◌/◌, ◌≤◌, length, drop}
+use Rattle.std.proofs.Common.{◌≡◌, ◌+◌, ◌*◌, ◌/◌, ◌≤◌, length, drop}
 use Rattle.ranges.specs.Walk.{blocks_at, remaining, AllBelow}
 use Rattle.state.specs.Limits.{block_bytes}
 use Rattle.updater.specs.Bytes.{written}

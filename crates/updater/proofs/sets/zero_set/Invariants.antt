@@ -1,6 +1,6 @@
 -- The loop's invariant: zeroing the blocks that are left leaves what zeroing all of them does; they are within the
 -- image, whose length is as it was.
-use Rattle.std.proofs.Common.{◌≡◌, ◌-◌, ◌/◌, length}
+use Rattle.std.proofs.Common.{◌≡◌, ◌/◌, length}
 use Rattle.ranges.specs.Walk.{blocks_at, remaining, AllBelow}
 use Rattle.state.specs.Limits.{block_bytes}
 use Rattle.updater.specs.Bytes.{zeroed}

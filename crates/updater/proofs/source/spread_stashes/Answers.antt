@@ -1,5 +1,5 @@
 -- `spread_stashes` meets its contract.
-use Rattle.std.proofs.Common.{◌≡◌, ℕ, ◌-◌, ◌/◌, List, [], ◌∷◌, length, sym, refl, ap, ◌∙◌, arith}
+use Rattle.std.proofs.Common.{◌≡◌, ℕ, ◌/◌, List, [], ◌∷◌, length, sym, refl, ap, ◌∙◌, arith}
 use Rattle.ranges.specs.Ranges.{least_again}
 use Rattle.ranges.specs.Walk.{blocks_at}
 use Rattle.ranges.specs.declared.RangeSet.{RangeSet}

@@ -38,7 +38,7 @@ run_lines-ran-requires c =
     record {
       fits = rw c.terms_for-terms.ensures
           (possible-fits c.args.list.now p (sym c.is_possible.ensures ∙ c.if-not-is_possible.false) hashes sizes total);
-      number_value = c.if-held-ne0.false;
+      unrefused = c.if-held-ne0.false;
     }
 
 pub returns-then-ran : goal.returns-then-ran

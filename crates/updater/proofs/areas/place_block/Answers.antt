@@ -13,5 +13,5 @@ returns c =
     let a = c.args in
     let source = pick a.stashed a.stash.now a.image.now in
     part_back a.work.now (block_at source a.k) c.copy_in.new.to (block_bytes * a.p) (length a.work.now - block_bytes * a.p)
-    (rw (length_block source a.k c.requires.block_bytes_in_bounds) (simp (length-take, length-drop) (omega arith)))
+    (rw (length_block source a.k c.requires.block_within) (simp (length-take, length-drop) (omega arith)))
     (rw c.source_block-from.ensures at c.copy_in.ensures)

@@ -15,8 +15,8 @@ returns-then-not-has_hash c =
 
 pub patch_source-requires : goal.patch_source-requires
 patch_source-requires c =
-    let r = c.requires.bsdiff_runs.patched in
-    record { n_in_bounds = (omega (arith, r.room, c.put_together.auto.work), r.holds); length_in_bounds = rw c.read_patching-patching.ensures r.within }
+    let r = c.requires.runs.patched in
+    record { room = (omega (arith, r.room, c.put_together.auto.work), r.holds); patch_within = rw c.read_patching-patching.ensures r.within }
 
 pub returns : goal.returns
 returns c =

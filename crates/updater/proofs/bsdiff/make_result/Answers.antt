@@ -38,4 +38,4 @@ pub returns : goal.returns
 returns c =
     let a = c.args in
     let p = take a.patching.length (drop a.patching.start a.patch.now) in
-    record { value = (applied (goal.at.returns c).After-apply).0; res_after = rw (applied (goal.at.returns c).After-apply).0 (made p a.source.now a.res.now _ a.size c.requires.1 (applied (goal.at.returns c).After-apply).1) }
+    record { good = (applied (goal.at.returns c).After-apply).0; made = rw (applied (goal.at.returns c).After-apply).0 (made p a.source.now a.res.now _ a.size c.requires.1 (applied (goal.at.returns c).After-apply).1) }

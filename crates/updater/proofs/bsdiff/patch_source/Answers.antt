@@ -31,8 +31,8 @@ goes_on_lem : (c : After-has_hash) → (image stash : List ℕ) → {x : Effect}
 goes_on_lem c image stash e =
     let a = c.args in
     let good = c.if-not-make_result.false in
-    patch-good a.l.now a.patching a.target a.n ((areas_of image stash c.args.work.now a.res.now c.args.patch.now)) c.make_result.ensures.value good
-    (e ∙ ap (λ (r : List ℕ). result_filled a.l.now a.patching a.target ((areas_of image stash c.args.work.now r c.args.patch.now))) (first-is _ _ _ good c.make_result.ensures.res_after))
+    patch-good a.l.now a.patching a.target a.n ((areas_of image stash c.args.work.now a.res.now c.args.patch.now)) c.make_result.ensures.good good
+    (e ∙ ap (λ (r : List ℕ). result_filled a.l.now a.patching a.target ((areas_of image stash c.args.work.now r c.args.patch.now))) (first-is _ _ _ good c.make_result.ensures.made))
 
 pub slice_bounds-make_result-end : goal.slice_bounds-make_result-end
 slice_bounds-make_result-end c = simp length-take (omega arith)
@@ -41,8 +41,8 @@ pub returns-then-not-make_result : goal.returns-then-not-make_result
 returns-then-not-make_result c image stash =
     let a = c.args in
     let bad = c.if-not-make_result.true in
-    ap (λ (r : List ℕ). effect_of ((areas_of image stash c.args.work.now r c.args.patch.now)) patch_malformed) (second_is _ _ _ bad c.make_result.ensures.res_after)
-    ∙ patch_malformed_lem a.l.now a.patching a.target a.n ((areas_of image stash c.args.work.now a.res.now c.args.patch.now)) c.make_result.ensures.value bad
+    ap (λ (r : List ℕ). effect_of ((areas_of image stash c.args.work.now r c.args.patch.now)) patch_malformed) (second_is _ _ _ bad c.make_result.ensures.made)
+    ∙ patch_malformed_lem a.l.now a.patching a.target a.n ((areas_of image stash c.args.work.now a.res.now c.args.patch.now)) c.make_result.ensures.good bad
 
 pub returns-then-has_hash : goal.returns-then-has_hash
 returns-then-has_hash c image stash =

@@ -26,7 +26,7 @@ slice_bounds-write_set-end-then-ready-ne0 c = simp length-take (omega arith)
 
 pub write_set-requires : goal.write_set-requires
 write_set-requires c =
-    let r = c.requires.bsdiff_runs.patched in
+    let r = c.requires.runs.patched in
     (r.goal.below, simp length-take (omega (arith, r.goal.size, r.holds)))
 
 pub returns-then-ready-ne0 : goal.returns-then-ready-ne0

@@ -6,26 +6,26 @@ use Rattle.updater.proofs.StepLaws.{step-zero, step_erase, step_new, step_move, 
 use Rattle.updater.proofs.commands.run_step.Goals as goal
 
 pub zero_set-requires : goal.zero_set-requires
-zero_set-requires c = (runs-zero c.args.l.now ((held_in (table_at c.args.hashes.now c.args.sizes.now c.args.count))) ((areas_of c.args.image.now c.args.stash.now c.args.work.now c.args.res.now c.args.patch.now)) c.in-Zero.is c.requires.runnable).below
+zero_set-requires c = (runs-zero c.args.l.now ((held_in (table_at c.args.hashes.now c.args.sizes.now c.args.count))) ((areas_of c.args.image.now c.args.stash.now c.args.work.now c.args.res.now c.args.patch.now)) c.in-Zero.is c.requires.runs).below
 
 pub zero_set-requires-in-Erase : goal.zero_set-requires-in-Erase
-zero_set-requires-in-Erase c = (runs_erase c.args.l.now ((held_in (table_at c.args.hashes.now c.args.sizes.now c.args.count))) ((areas_of c.args.image.now c.args.stash.now c.args.work.now c.args.res.now c.args.patch.now)) c.in-Erase.is c.requires.runnable).below
+zero_set-requires-in-Erase c = (runs_erase c.args.l.now ((held_in (table_at c.args.hashes.now c.args.sizes.now c.args.count))) ((areas_of c.args.image.now c.args.stash.now c.args.work.now c.args.res.now c.args.patch.now)) c.in-Erase.is c.requires.runs).below
 
 pub step_move-requires : goal.step_move-requires
 step_move-requires c =
-    record { keeps = c.requires.keeps; move_runs = runs_move c.args.l.now ((held_in (table_at c.args.hashes.now c.args.sizes.now c.args.count))) ((areas_of c.args.image.now c.args.stash.now c.args.work.now c.args.res.now c.args.patch.now)) c.in-Move.is c.requires.runnable }
+    record { keeps = c.requires.keeps; runs = runs_move c.args.l.now ((held_in (table_at c.args.hashes.now c.args.sizes.now c.args.count))) ((areas_of c.args.image.now c.args.stash.now c.args.work.now c.args.res.now c.args.patch.now)) c.in-Move.is c.requires.runs }
 
 pub step_bsdiff-requires : goal.step_bsdiff-requires
 step_bsdiff-requires c =
-    record { keeps = c.requires.keeps; bsdiff_runs = runs_bsdiff c.args.l.now ((held_in (table_at c.args.hashes.now c.args.sizes.now c.args.count))) ((areas_of c.args.image.now c.args.stash.now c.args.work.now c.args.res.now c.args.patch.now)) c.in-Bsdiff.is c.requires.runnable }
+    record { keeps = c.requires.keeps; runs = runs_bsdiff c.args.l.now ((held_in (table_at c.args.hashes.now c.args.sizes.now c.args.count))) ((areas_of c.args.image.now c.args.stash.now c.args.work.now c.args.res.now c.args.patch.now)) c.in-Bsdiff.is c.requires.runs }
 
 pub step_stash-requires : goal.step_stash-requires
 step_stash-requires c =
-    runs-stash c.args.l.now ((held_in (table_at c.args.hashes.now c.args.sizes.now c.args.count))) ((areas_of c.args.image.now c.args.stash.now c.args.work.now c.args.res.now c.args.patch.now)) c.in-Stash.is c.requires.runnable
+    runs-stash c.args.l.now ((held_in (table_at c.args.hashes.now c.args.sizes.now c.args.count))) ((areas_of c.args.image.now c.args.stash.now c.args.work.now c.args.res.now c.args.patch.now)) c.in-Stash.is c.requires.runs
 
 pub step_free-requires : goal.step_free-requires
 step_free-requires c =
-    record { keeps = c.requires.keeps; hash_value = frees_on_lem ((held_in (table_at c.args.hashes.now c.args.sizes.now c.args.count))) c.args.line.hash c.args.stretches c.in-Free.is c.requires.command_value }
+    record { keeps = c.requires.keeps; may_stretch = frees_on_lem ((held_in (table_at c.args.hashes.now c.args.sizes.now c.args.count))) c.args.line.hash c.args.stretches c.in-Free.is c.requires.may_stretch }
 
 pub returns-in-Zero : goal.returns-in-Zero
 returns-in-Zero c =

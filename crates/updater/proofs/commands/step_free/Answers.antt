@@ -33,7 +33,7 @@ bounds : (c : After-blocks_before) → let from = c.blocks_before-start.result i
     × (k ≤ most_area_blocks)
 bounds c =
     stretch_bounds ((held_in ((table_at c.args.hashes.now c.args.sizes.now c.args.count)))) (c.in-At.j) c.args.k (first c) (size c) (all c) c.args.stash.now c.requires.keeps
-    (may_stretch ((held_in ((table_at c.args.hashes.now c.args.sizes.now c.args.count)))) c.args.k (is_at c) c.requires.hash_value)
+    (may_stretch ((held_in ((table_at c.args.hashes.now c.args.sizes.now c.args.count)))) c.args.k (is_at c) c.requires.may_stretch)
 
 pub overflow_add-younger : goal.overflow_add-younger
 overflow_add-younger c = omega (arith, bounds c)

@@ -11,7 +11,7 @@ slice_bounds-write_set-end-then-ready-ne0 c = simp length-take (omega arith)
 
 pub write_set-requires : goal.write_set-requires
 write_set-requires c =
-    let r = c.requires.move_runs in
+    let r = c.requires.runs in
     (r.goal.below, simp length-take (omega (arith, r.goal.size, r.size, r.room)))
 
 pub returns-then-ready-ne0 : goal.returns-then-ready-ne0

@@ -15,13 +15,13 @@ in_image c =
     rw (went_length (went_on c.ranges-2.invariant.went c.loop-k.invariant.went))
     (inside-image c.loop-k.invariant.inside c.loop-k-test.true _ c.requires.0)
 
-pub returns-in_default-clause-value : goal.returns-in_default-clause-value
-returns-in_default-clause-value c =
+pub returns-in_default-clause-left : goal.returns-in_default-clause-left
+returns-in_default-clause-left c =
     let n = ap length (blocks-none c.args.l.now c.args.at (sym c.read_number.ensures ∙ c.in_default.is)) in
     omega arith
 
-pub returns-in_default-clause-image_after : goal.returns-in_default-clause-image_after
-returns-in_default-clause-image_after c =
+pub returns-in_default-clause-put : goal.returns-in_default-clause-put
+returns-in_default-clause-put c =
     (went_none (blocks_at c.args.l.now c.args.at) c.args.piece.now c.args.image.now c.args.from c.args.into c.requires.1).image-is
 
 pub ranges-2-init : goal.ranges-2-init
@@ -30,8 +30,8 @@ ranges-2-init c = record {
   ahead = ahead-start _ _ _ _ (sym c.read_number.ensures ∙ c.in-Good.is);
 }
 
-pub returns-in_default-read_pair-clause-value : goal.returns-in_default-read_pair-clause-value
-returns-in_default-read_pair-clause-value c =
+pub returns-in_default-read_pair-clause-left : goal.returns-in_default-read_pair-clause-left
+returns-in_default-read_pair-clause-left c =
     let i = c.ranges-2.invariant in
     ahead-end i.ahead (blocks-bad _ _ _ c.ranges-2-test.true (sym c.read_pair.ensures ∙ c.in_default-read_pair.is)) _ i.went.past i.went.within
 
@@ -74,15 +74,15 @@ ranges-2-preserved c =
           })
     ]
 
-pub returns-after-ranges-2-clause-value : goal.returns-after-ranges-2-clause-value
-returns-after-ranges-2-clause-value c =
+pub returns-after-ranges-2-clause-left : goal.returns-after-ranges-2-clause-left
+returns-after-ranges-2-clause-left c =
     let i = c.ranges-2.invariant in
     ahead-end i.ahead (blocks_end _ _ _ c.ranges-2-test.false) _ i.went.past i.went.within
 
-pub returns-then-i-piece-clause-value : goal.returns-then-i-piece-clause-value
-returns-then-i-piece-clause-value c =
+pub returns-then-i-piece-clause-left : goal.returns-then-i-piece-clause-left
+returns-then-i-piece-clause-left c =
     let w = went_on c.ranges-2.invariant.went c.loop-k.invariant.went in
     inside-end c.loop-k.invariant.inside c.loop-k-test.true _ w.past c.if-i-piece.true
 
-pub returns-then-i-piece-clause-image_after : goal.returns-then-i-piece-clause-image_after
-returns-then-i-piece-clause-image_after c = (went_on c.ranges-2.invariant.went c.loop-k.invariant.went).image-is
+pub returns-then-i-piece-clause-put : goal.returns-then-i-piece-clause-put
+returns-then-i-piece-clause-put c = (went_on c.ranges-2.invariant.went c.loop-k.invariant.went).image-is

@@ -25,21 +25,21 @@ module _ (l hash : List ℕ) (c : Command) (s : State) {x : StepEnd} {t : Table}
 pub returns-in-Passed : goal.returns-in-Passed
 returns-in-Passed c =
     let e = after-passed _ _ _ _ c.in-Passed.is c.hold_after-count.ensures (c.pass.ensures _ _) in
-    record { progress_after = e.0; stop_value = e.1 }
+    record { state = e.0; stop = e.1 }
 
 pub returns-in-Ended : goal.returns-in-Ended
 returns-in-Ended c =
     let e = after-ended _ _ _ _ c.in-Ended.is c.hold_after-count-in-Ended.ensures (c.pass-in-Ended.ensures _ _) in
-    record { progress_after = e.0; stop_value = e.1 }
+    record { state = e.0; stop = e.1 }
 
 pub returns-in-Filled : goal.returns-in-Filled
 unfolding state_after stops_after
-returns-in-Filled c = rw c.in-Filled.is (record { progress_after = c.stay.ensures _ _; stop_value = refl })
+returns-in-Filled c = rw c.in-Filled.is (record { state = c.stay.ensures _ _; stop = refl })
 
 pub returns-in-Stretched : goal.returns-in-Stretched
 unfolding state_after stops_after
-returns-in-Stretched c = rw c.in-Stretched.is (record { progress_after = c.stay-in-Stretched.ensures _ _; stop_value = refl })
+returns-in-Stretched c = rw c.in-Stretched.is (record { state = c.stay-in-Stretched.ensures _ _; stop = refl })
 
 pub returns-in-Refused : goal.returns-in-Refused
 unfolding state_after stops_after
-returns-in-Refused c = rw c.in-Refused.is (record { progress_after = c.refuse.ensures _ _; stop_value = refl })
+returns-in-Refused c = rw c.in-Refused.is (record { state = c.refuse.ensures _ _; stop = refl })

@@ -30,7 +30,7 @@ lines-init c = record {
   stash = refl;
   work = refl;
   res = refl;
-  unrefused = c.requires.number_value;
+  unrefused = c.requires.unrefused;
   unstopped = refl;
   runs = run-starts c.args.list.now c.args.terms c.args.piece.now _ c.requires.fits;
 }
@@ -53,7 +53,7 @@ take_bytes-progress-requires c =
     let h : c.lines.progress.into < 2 ^ 64 = omega arith in
     let n = new_counts c.lines.invariant.runs.keeps k c.if-checked-ne0.false (sym c.new_target.ensures ∙ c.in-Set.is)
     (length c.args.piece.now - c.lines.i) h in
-    omega (arith, c.take_new-left.ensures.value, n)
+    omega (arith, c.take_new-left.ensures.left, n)
 
 pub pass-progress-requires : goal.pass-progress-requires
 pass-progress-requires c =
@@ -65,8 +65,8 @@ pass-progress-requires c =
 pub lines-smaller-in-Set : goal.lines-smaller-in-Set
 lines-smaller-in-Set c =
     let k = checks (goal.at.lines-smaller-in-Set c).After-check_line-checked in
-    (fills c.lines.invariant.runs k c.if-checked-ne0.false (sym c.new_target.ensures ∙ c.in-Set.is) c.take_new-left.ensures.value
-    c.take_new-left.ensures.image_after (c.take_bytes-progress.ensures _ _) c.if-progress-set.false (c.pass-progress.ensures _ _)).less
+    (fills c.lines.invariant.runs k c.if-checked-ne0.false (sym c.new_target.ensures ∙ c.in-Set.is) c.take_new-left.ensures.left
+    c.take_new-left.ensures.put (c.take_bytes-progress.ensures _ _) c.if-progress-set.false (c.pass-progress.ensures _ _)).less
 
 pub lines-preserved-in-Set : goal.lines-preserved-in-Set
 lines-preserved-in-Set c =
@@ -80,20 +80,20 @@ lines-preserved-in-Set c =
       unrefused = further-refusal _ _ (c.take_bytes-progress.ensures c.lines.hashes c.lines.sizes) _ (c.pass-progress.ensures _ _)
           ∙ v.unrefused;
       unstopped = v.unstopped;
-      runs = (fills v.runs k c.if-checked-ne0.false (sym c.new_target.ensures ∙ c.in-Set.is) c.take_new-left.ensures.value
-          c.take_new-left.ensures.image_after (c.take_bytes-progress.ensures _ _) c.if-progress-set.false (c.pass-progress.ensures _ _)).same;
+      runs = (fills v.runs k c.if-checked-ne0.false (sym c.new_target.ensures ∙ c.in-Set.is) c.take_new-left.ensures.left
+          c.take_new-left.ensures.put (c.take_bytes-progress.ensures _ _) c.if-progress-set.false (c.pass-progress.ensures _ _)).same;
     }
 
 -- ---- a step of another command
 
-pub run_step-end-requires-clause-runnable : goal.run_step-end-requires-clause-runnable
-run_step-end-requires-clause-runnable c =
-    let k = checks (goal.at.run_step-end-requires-clause-runnable c).After-check_line-checked in
+pub run_step-end-requires-clause-runs : goal.run_step-end-requires-clause-runs
+run_step-end-requires-clause-runs c =
+    let k = checks (goal.at.run_step-end-requires-clause-runs c).After-check_line-checked in
     checked-runs c.lines.invariant.runs.keeps k c.if-checked-ne0.false
 
-pub run_step-end-requires-clause-command_value : goal.run_step-end-requires-clause-command_value
-run_step-end-requires-clause-command_value c =
-    checked-stretches c.lines.invariant.runs.keeps (checks (goal.at.run_step-end-requires-clause-command_value c).After-check_line-checked)
+pub run_step-end-requires-clause-may_stretch : goal.run_step-end-requires-clause-may_stretch
+run_step-end-requires-clause-may_stretch c =
+    checked-stretches c.lines.invariant.runs.keeps (checks (goal.at.run_step-end-requires-clause-may_stretch c).After-check_line-checked)
 
 pub after_step-went-requires : goal.after_step-went-requires
 after_step-went-requires c =
@@ -107,7 +107,7 @@ pub lines-smaller : goal.lines-smaller
 lines-smaller c =
     let k = checks (goal.at.lines-smaller c).After-check_line-checked in
     (runs c.lines.invariant.runs k c.if-checked-ne0.false (sym c.new_target.ensures ∙ c.in-None.is) c.run_step-end.ensures
-    c.after_step-went.ensures.progress_after (sym c.after_step-went.ensures.stop_value ∙ c.if-went.false)).less
+    c.after_step-went.ensures.state (sym c.after_step-went.ensures.stop ∙ c.if-went.false)).less
 
 pub lines-preserved : goal.lines-preserved
 lines-preserved c =
@@ -122,7 +122,7 @@ lines-preserved c =
       unrefused = c.if-refusal-ne0.false;
       unstopped = v.unstopped;
       runs = (runs v.runs k c.if-checked-ne0.false (sym c.new_target.ensures ∙ c.in-None.is) c.run_step-end.ensures
-          c.after_step-went.ensures.progress_after (sym c.after_step-went.ensures.stop_value ∙ c.if-went.false)).same;
+          c.after_step-went.ensures.state (sym c.after_step-went.ensures.stop ∙ c.if-went.false)).same;
     }
 
 -- ---- where the run ends: the text does, a line is refused, the piece ends, a stop comes, a step refuses
@@ -144,15 +144,15 @@ returns-then-progress-set c =
     let k = checks (goal.at.returns-then-progress-set c).After-check_line-checked in
     rw v.unstopped
     (came _ _
-    (lacks v.runs k c.if-checked-ne0.false (sym c.new_target.ensures ∙ c.in-Set.is) c.take_new-left.ensures.value
-    c.take_new-left.ensures.image_after (c.take_bytes-progress.ensures _ _) c.if-progress-set.true))
+    (lacks v.runs k c.if-checked-ne0.false (sym c.new_target.ensures ∙ c.in-Set.is) c.take_new-left.ensures.left
+    c.take_new-left.ensures.put (c.take_bytes-progress.ensures _ _) c.if-progress-set.true))
 
 pub returns-then-went : goal.returns-then-went
 returns-then-went c =
     let k = checks (goal.at.returns-then-went c).After-check_line-checked in
     came _ _
     (stops c.lines.invariant.runs k c.if-checked-ne0.false (sym c.new_target.ensures ∙ c.in-None.is) c.run_step-end.ensures
-    c.after_step-went.ensures.progress_after (sym c.after_step-went.ensures.stop_value ∙ c.if-went.true))
+    c.after_step-went.ensures.state (sym c.after_step-went.ensures.stop ∙ c.if-went.true))
 
 pub returns-then-refusal-ne0 : goal.returns-then-refusal-ne0
 returns-then-refusal-ne0 c =
@@ -161,4 +161,4 @@ returns-then-refusal-ne0 c =
     rw v.unstopped
     (came _ _
     (halts v.runs k c.if-checked-ne0.false (sym c.new_target.ensures ∙ c.in-None.is) c.run_step-end.ensures
-    c.after_step-went.ensures.progress_after (sym c.after_step-went.ensures.stop_value ∙ c.if-went.false) c.if-refusal-ne0.true))
+    c.after_step-went.ensures.state (sym c.after_step-went.ensures.stop ∙ c.if-went.false) c.if-refusal-ne0.true))

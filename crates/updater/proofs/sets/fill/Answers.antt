@@ -34,7 +34,7 @@ room c =
 pub loop-b-init : goal.loop-b-init
 loop-b-init c =
     let h = c.requires in
-    record { keeps = refl; blocks = h.all_below; places = h.all_below_2; sides = h.blocks_len; same = refl }
+    record { keeps = refl; blocks = h.blocks_below; places = h.places_below; sides = h.as_many; same = refl }
 
 pub shape_of-work-in-Done : goal.shape_of-work-in-Done
 shape_of-work-in-Done c = c.loop-b.invariant.keeps
@@ -54,7 +54,7 @@ returns-in-Done-next_of c =
     absurd (omega (arith, ap length (met (goal.at.returns-in-Done-next_of c).In-Block), ap length e, c.loop-b.invariant.sides))
 
 pub place_block-requires : goal.place_block-requires
-place_block-requires c = record { block_bytes_in_bounds = within (goal.at.place_block-requires c).In-Block; block_bytes_in_bounds_2 = room (goal.at.place_block-requires c).In-Block-next_of }
+place_block-requires c = record { block_within = within (goal.at.place_block-requires c).In-Block; place_within = room (goal.at.place_block-requires c).In-Block-next_of }
 
 pub loop-b-smaller : goal.loop-b-smaller
 loop-b-smaller c = omega (arith, ap length (met (goal.at.loop-b-smaller c).In-Block))

@@ -73,7 +73,7 @@ pub fill-requires : goal.fill-requires
 fill-requires c =
     let h = both (goal.at.fill-requires c).In-Both in
     let e = blocks-walked c in
-    let f = places-walked c in record { all_below = subst (AllBelow _) (sym e) h.0.below; all_below_2 = subst (AllBelow _) (sym f) h.1.below; blocks_len = ap length e ∙ h.0.size ∙ sym h.1.size ∙ sym (ap length f) }
+    let f = places-walked c in record { blocks_below = subst (AllBelow _) (sym e) h.0.below; places_below = subst (AllBelow _) (sym f) h.1.below; as_many = ap length e ∙ h.0.size ∙ sym h.1.size ∙ sym (ap length f) }
 
 pub spread_stashes-requires-in-Both : goal.spread_stashes-requires-in-Both
 spread_stashes-requires-in-Both c =

@@ -41,7 +41,7 @@ overflow_add-end c = omega (arith, within c)
 pub fill-requires : goal.fill-requires
 fill-requires c =
     let n = c.blocks_before-start.result in
-    let m = c.stash_blocks.result in record { all_below = below_span (length c.args.stash.now / block_bytes) n (n + m - n) (omega (arith, within (goal.at.fill-requires c).After-stash_blocks)); all_below_2 = subst (AllBelow _) (sym (walked c)) c.requires.spread.below; blocks_len = omega (arith, ap length (walked c), size (goal.at.fill-requires c).After-stash_blocks, fits (goal.at.fill-requires c).After-stash_blocks, length-span n (n + m - n)) }
+    let m = c.stash_blocks.result in record { blocks_below = below_span (length c.args.stash.now / block_bytes) n (n + m - n) (omega (arith, within (goal.at.fill-requires c).After-stash_blocks)); places_below = subst (AllBelow _) (sym (walked c)) c.requires.spread.below; as_many = omega (arith, ap length (walked c), size (goal.at.fill-requires c).After-stash_blocks, fits (goal.at.fill-requires c).After-stash_blocks, length-span n (n + m - n)) }
 
 pub returns-in-At : goal.returns-in-At
 returns-in-At c =

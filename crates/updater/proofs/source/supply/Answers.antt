@@ -15,7 +15,7 @@ walked c = walk-blocks _ _ c.walk_from.ensures
 pub fill-requires : goal.fill-requires
 fill-requires c =
     let a = c.args in
-    let h = c.requires in record { all_below = subst (AllBelow _) (sym (walked c)) h.0.below; all_below_2 = below_span (length a.work.now / block_bytes) 0 (a.set.blocks - 0) (omega (arith, h.1)); blocks_len = omega (arith, ap length (walked c), h.0.size, length-span 0 (a.set.blocks - 0)) }
+    let h = c.requires in record { blocks_below = subst (AllBelow _) (sym (walked c)) h.0.below; places_below = below_span (length a.work.now / block_bytes) 0 (a.set.blocks - 0) (omega (arith, h.1)); as_many = omega (arith, ap length (walked c), h.0.size, length-span 0 (a.set.blocks - 0)) }
 
 pub returns : goal.returns
 returns c =

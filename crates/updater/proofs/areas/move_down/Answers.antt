@@ -4,9 +4,6 @@ use Rattle.state.proofs.CopyLaws.{moved_none, moved-next, moved_all}
 use Rattle.updater.specs.Bytes.{moved_down}
 use Rattle.updater.proofs.areas.move_down.Goals as goal
 
-pub loop-i-init : goal.loop-i-init
-loop-i-init c = moved_none c.args.area.now c.args.to c.args.from c.args.n
-
 pub loop-i-preserved : goal.loop-i-preserved
 loop-i-preserved c = moved-next _ _ _ _ (omega arith) (omega arith) c.loop-i.invariant (omega arith)
 

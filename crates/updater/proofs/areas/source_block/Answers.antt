@@ -16,20 +16,8 @@ fitting c = picked_below c.args.stashed c.args.stash.now c.args.image.now c.well
 whole : (k : ℕ) → block_bytes * k + block_bytes - block_bytes * k ≡ block_bytes
 whole k = omega arith
 
-pub overflow_mul-start : goal.overflow_mul-start
-overflow_mul-start c = omega (arith, fitting c)
-
-pub overflow_add-end : goal.overflow_add-end
-overflow_add-end c = omega (arith, fitting c)
-
-pub slice_bounds-result-end : goal.slice_bounds-result-end
-slice_bounds-result-end c = omega (arith, rw c.if-stashed.true at c.requires)
-
 pub returns-then-stashed : goal.returns-then-stashed
 returns-then-stashed c = let e = whole c.args.k in rw (e, c.if-stashed.true)
-
-pub slice_bounds-result-end-2 : goal.slice_bounds-result-end-2
-slice_bounds-result-end-2 c = omega (arith, rw c.if-stashed.false at c.requires)
 
 pub returns : goal.returns
 returns c = let e = whole c.args.k in rw (e, c.if-stashed.false)

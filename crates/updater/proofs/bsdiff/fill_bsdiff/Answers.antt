@@ -9,19 +9,14 @@ use Rattle.updater.proofs.bsdiff.fill_bsdiff.Goals as goal
 pub returns-then-not-has_hash : goal.returns-then-not-has_hash
 returns-then-not-has_hash c =
     let a = c.args in
-    bsdiff_differs a.l.now ((held_in (table_at c.args.hashes.now c.args.sizes.now c.args.count))) a.hash ((areas_of c.args.image.now c.args.stash.now c.args.work.now c.args.res.now c.args.patch.now)) a.n a.source c.put_together.ensures c.has_hash.ensures
+    bsdiff_differs a.l.now (held_in (table_at c.args.hashes.now c.args.sizes.now c.args.count)) a.hash (areas_of c.args.image.now c.args.stash.now c.args.work.now c.args.res.now c.args.patch.now) a.n a.source c.put_together.ensures c.has_hash.ensures
     a.target
     c.if-not-has_hash.true
-
-pub patch_source-requires : goal.patch_source-requires
-patch_source-requires c =
-    let r = c.requires.runs.patched in
-    record { room = (omega (arith, r.room, c.put_together.auto.work), r.holds); patch_within = rw c.read_patching-patching.ensures r.within }
 
 pub returns : goal.returns
 returns c =
     let a = c.args in
-    bsdiff_goes a.l.now ((held_in (table_at c.args.hashes.now c.args.sizes.now c.args.count))) a.hash ((areas_of c.args.image.now c.args.stash.now c.args.work.now c.args.res.now c.args.patch.now)) a.n a.source c.put_together.ensures c.has_hash.ensures
+    bsdiff_goes a.l.now (held_in (table_at c.args.hashes.now c.args.sizes.now c.args.count)) a.hash (areas_of c.args.image.now c.args.stash.now c.args.work.now c.args.res.now c.args.patch.now) a.n a.source c.put_together.ensures c.has_hash.ensures
     a.target
     c.if-not-has_hash.false
     c.read_patching-patching.ensures

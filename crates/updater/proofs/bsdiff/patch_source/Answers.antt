@@ -27,29 +27,26 @@ same-is c =
 
 -- a patch that is good: its result is filled
 goes_on_lem : (c : After-has_hash) → (image stash : List ℕ) → {x : Effect} → let a = c.args in
-    x ≡ result_filled a.l.now a.patching a.target ((areas_of image stash c.args.work.now (c.make_result.new.res) c.args.patch.now)) → x ≡ patch_filled a.l.now a.patching a.target a.n (areas_of image stash c.args.work.now a.res.now c.args.patch.now)
+    x ≡ result_filled a.l.now a.patching a.target (areas_of image stash c.args.work.now (c.make_result.new.res) c.args.patch.now) → x ≡ patch_filled a.l.now a.patching a.target a.n (areas_of image stash c.args.work.now a.res.now c.args.patch.now)
 goes_on_lem c image stash e =
     let a = c.args in
     let good = c.if-not-make_result.false in
-    patch-good a.l.now a.patching a.target a.n ((areas_of image stash c.args.work.now a.res.now c.args.patch.now)) c.make_result.ensures.good good
-    (e ∙ ap (λ (r : List ℕ). result_filled a.l.now a.patching a.target ((areas_of image stash c.args.work.now r c.args.patch.now))) (first-is _ _ _ good c.make_result.ensures.made))
-
-pub slice_bounds-make_result-end : goal.slice_bounds-make_result-end
-slice_bounds-make_result-end c = simp length-take (omega arith)
+    patch-good a.l.now a.patching a.target a.n (areas_of image stash c.args.work.now a.res.now c.args.patch.now) c.make_result.ensures.good good
+    (e ∙ ap (λ (r : List ℕ). result_filled a.l.now a.patching a.target (areas_of image stash c.args.work.now r c.args.patch.now)) (first-is _ _ _ good c.make_result.ensures.made))
 
 pub returns-then-not-make_result : goal.returns-then-not-make_result
 returns-then-not-make_result c image stash =
     let a = c.args in
     let bad = c.if-not-make_result.true in
-    ap (λ (r : List ℕ). effect_of ((areas_of image stash c.args.work.now r c.args.patch.now)) patch_malformed) (second_is _ _ _ bad c.make_result.ensures.made)
-    ∙ patch_malformed_lem a.l.now a.patching a.target a.n ((areas_of image stash c.args.work.now a.res.now c.args.patch.now)) c.make_result.ensures.good bad
+    ap (λ (r : List ℕ). effect_of (areas_of image stash c.args.work.now r c.args.patch.now) patch_malformed) (second_is _ _ _ bad c.make_result.ensures.made)
+    ∙ patch_malformed_lem a.l.now a.patching a.target a.n (areas_of image stash c.args.work.now a.res.now c.args.patch.now) c.make_result.ensures.good bad
 
 pub returns-then-has_hash : goal.returns-then-has_hash
 returns-then-has_hash c image stash =
     let a = c.args in
-    goes_on_lem (goal.at.returns-then-has_hash c).After-has_hash image stash (result-good a.l.now a.patching a.target ((areas_of image stash c.args.work.now (c.make_result.new.res) c.args.patch.now)) (same-is (goal.at.returns-then-has_hash c).After-has_hash) c.if-has_hash.true)
+    goes_on_lem (goal.at.returns-then-has_hash c).After-has_hash image stash (result-good a.l.now a.patching a.target (areas_of image stash c.args.work.now (c.make_result.new.res) c.args.patch.now) (same-is (goal.at.returns-then-has_hash c).After-has_hash) c.if-has_hash.true)
 
 pub returns : goal.returns
 returns c image stash =
     let a = c.args in
-    goes_on_lem (goal.at.returns c).After-has_hash image stash (result-differs a.l.now a.patching a.target ((areas_of image stash c.args.work.now (c.make_result.new.res) c.args.patch.now)) (same-is (goal.at.returns c).After-has_hash) c.if-has_hash.false)
+    goes_on_lem (goal.at.returns c).After-has_hash image stash (result-differs a.l.now a.patching a.target (areas_of image stash c.args.work.now (c.make_result.new.res) c.args.patch.now) (same-is (goal.at.returns c).After-has_hash) c.if-has_hash.false)

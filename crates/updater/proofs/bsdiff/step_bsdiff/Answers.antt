@@ -21,28 +21,20 @@ compared c =
     (c.read_result_hash-wanted.ensures
     ∙ ap (λ (p : Patching). result_hash a.l.now p.hashes) c.read_patching-patching.ensures)
 
-pub slice_bounds-write_set-end-then-ready-ne0 : goal.slice_bounds-write_set-end-then-ready-ne0
-slice_bounds-write_set-end-then-ready-ne0 c = simp length-take (omega arith)
-
-pub write_set-requires : goal.write_set-requires
-write_set-requires c =
-    let r = c.requires.runs.patched in
-    (r.goal.below, simp length-take (omega (arith, r.goal.size, r.holds)))
-
 pub returns-then-ready-ne0 : goal.returns-then-ready-ne0
 returns-then-ready-ne0 c =
     let a = c.args in
-    bsdiff_writes a.l.now ((held_in (table_at c.args.hashes.now c.args.sizes.now c.args.count))) a.hash ((areas_of c.args.image.now c.args.stash.now c.args.work.now c.args.res.now c.args.patch.now)) a.target a.n a.source c.if-ready-ne0.true
+    bsdiff_writes a.l.now (held_in (table_at c.args.hashes.now c.args.sizes.now c.args.count)) a.hash (areas_of c.args.image.now c.args.stash.now c.args.work.now c.args.res.now c.args.patch.now) a.target a.n a.source c.if-ready-ne0.true
     c.write_set.ensures
 
 pub returns-then-set_has_hash : goal.returns-then-set_has_hash
 returns-then-set_has_hash c =
     let a = c.args in
-    bsdiff_skips a.l.now ((held_in (table_at c.args.hashes.now c.args.sizes.now c.args.count))) a.hash ((areas_of c.args.image.now c.args.stash.now c.args.work.now c.args.res.now c.args.patch.now)) a.target a.n a.source c.if-ready-ne0.false (compared (goal.at.returns-then-set_has_hash c).After-set_has_hash) c.if-set_has_hash.true
+    bsdiff_skips a.l.now (held_in (table_at c.args.hashes.now c.args.sizes.now c.args.count)) a.hash (areas_of c.args.image.now c.args.stash.now c.args.work.now c.args.res.now c.args.patch.now) a.target a.n a.source c.if-ready-ne0.false (compared (goal.at.returns-then-set_has_hash c).After-set_has_hash) c.if-set_has_hash.true
 
 pub returns : goal.returns
 returns c =
     let a = c.args in
-    bsdiff_fills a.l.now ((held_in (table_at c.args.hashes.now c.args.sizes.now c.args.count))) a.hash ((areas_of c.args.image.now c.args.stash.now c.args.work.now c.args.res.now c.args.patch.now)) a.target a.n a.source c.if-ready-ne0.false (compared (goal.at.returns c).After-set_has_hash) c.if-set_has_hash.false
+    bsdiff_fills a.l.now (held_in (table_at c.args.hashes.now c.args.sizes.now c.args.count)) a.hash (areas_of c.args.image.now c.args.stash.now c.args.work.now c.args.res.now c.args.patch.now) a.target a.n a.source c.if-ready-ne0.false (compared (goal.at.returns c).After-set_has_hash) c.if-set_has_hash.false
     c.fill_bsdiff.ensures
     c.fill_end.ensures

@@ -7,12 +7,12 @@ use Rattle.updater.proofs.commands.fill_move.Goals as goal
 pub returns-then-has_hash : goal.returns-then-has_hash
 returns-then-has_hash c result patch =
     let a = c.args in
-    move_good a.l.now ((held_in (table_at c.args.hashes.now c.args.sizes.now c.args.count))) a.hash ((areas_of c.args.image.now c.args.stash.now c.args.work.now) result patch) a.n a.source c.put_together.ensures c.has_hash.ensures
+    move_good a.l.now (held_in (table_at c.args.hashes.now c.args.sizes.now c.args.count)) a.hash ((areas_of c.args.image.now c.args.stash.now c.args.work.now) result patch) a.n a.source c.put_together.ensures c.has_hash.ensures
     c.if-has_hash.true
 
 pub returns : goal.returns
 returns c result patch =
     let a = c.args in
-    move_differs a.l.now ((held_in (table_at c.args.hashes.now c.args.sizes.now c.args.count))) a.hash ((areas_of c.args.image.now c.args.stash.now c.args.work.now) result patch) a.n a.source c.put_together.ensures
+    move_differs a.l.now (held_in (table_at c.args.hashes.now c.args.sizes.now c.args.count)) a.hash ((areas_of c.args.image.now c.args.stash.now c.args.work.now) result patch) a.n a.source c.put_together.ensures
     c.has_hash.ensures
     c.if-has_hash.false

@@ -12,17 +12,17 @@ use Rattle.updater.proofs.StepLaws.{may_stretch, stretch_bounds, frees_at, frees
 use Rattle.updater.proofs.commands.step_free.Goals as goal
 use Rattle.updater.proofs.commands.step_free.Goals.{After-blocks_before}
 
-is_at : (c : After-blocks_before) → find_in ((held_in ((table_at c.args.hashes.now c.args.sizes.now c.args.count)))) c.args.hash ≡ At (c.in-At.j)
+is_at : (c : After-blocks_before) → find_in (held_in (table_at c.args.hashes.now c.args.sizes.now c.args.count)) c.args.hash ≡ At (c.in-At.j)
 is_at c = sym (c.find_stash.ensures c.args.sizes.now) ∙ c.in-At.is
 
-first : (c : After-blocks_before) → c.blocks_before-start.result ≡ stash_start ((held_in ((table_at c.args.hashes.now c.args.sizes.now c.args.count)))) (c.in-At.j)
+first : (c : After-blocks_before) → c.blocks_before-start.result ≡ stash_start (held_in (table_at c.args.hashes.now c.args.sizes.now c.args.count)) (c.in-At.j)
 first c = start_exact _ _ c.requires.keeps (c.in-At.j) (c.blocks_before-start.ensures c.args.hashes.now)
 
-size : (c : After-blocks_before) → c.stash_blocks-gap.result ≡ size_at ((held_in ((table_at c.args.hashes.now c.args.sizes.now c.args.count)))) (c.in-At.j)
+size : (c : After-blocks_before) → c.stash_blocks-gap.result ≡ size_at (held_in (table_at c.args.hashes.now c.args.sizes.now c.args.count)) (c.in-At.j)
 size c = c.stash_blocks-gap.ensures c.args.hashes.now
 
-all : (c : After-blocks_before) → c.blocks_before.result ≡ blocks_held ((held_in ((table_at c.args.hashes.now c.args.sizes.now c.args.count))))
-all c = blocks-all ((table_at c.args.hashes.now c.args.sizes.now c.args.count)) (c.blocks_before.ensures c.args.hashes.now) (omega (arith, c.requires.keeps.blocks))
+all : (c : After-blocks_before) → c.blocks_before.result ≡ blocks_held (held_in (table_at c.args.hashes.now c.args.sizes.now c.args.count))
+all c = blocks-all (table_at c.args.hashes.now c.args.sizes.now c.args.count) (c.blocks_before.ensures c.args.hashes.now) (omega (arith, c.requires.keeps.blocks))
 
 -- the stretch lies among what is held, which is little
 bounds : (c : After-blocks_before) → let from = c.blocks_before-start.result in
@@ -32,8 +32,8 @@ bounds : (c : After-blocks_before) → let from = c.blocks_before-start.result i
     (from + gap ≤ held) × (from + k * gap + gap + stretch_blocks gap (held - (from + gap)) k ≤ held) × (held ≤ most_area_blocks)
     × (k ≤ most_area_blocks)
 bounds c =
-    stretch_bounds ((held_in ((table_at c.args.hashes.now c.args.sizes.now c.args.count)))) (c.in-At.j) c.args.k (first c) (size c) (all c) c.args.stash.now c.requires.keeps
-    (may_stretch ((held_in ((table_at c.args.hashes.now c.args.sizes.now c.args.count)))) c.args.k (is_at c) c.requires.may_stretch)
+    stretch_bounds (held_in (table_at c.args.hashes.now c.args.sizes.now c.args.count)) (c.in-At.j) c.args.k (first c) (size c) (all c) c.args.stash.now c.requires.keeps
+    (may_stretch (held_in (table_at c.args.hashes.now c.args.sizes.now c.args.count)) c.args.k (is_at c) c.requires.may_stretch)
 
 pub overflow_add-younger : goal.overflow_add-younger
 overflow_add-younger c = omega (arith, bounds c)
@@ -67,13 +67,13 @@ stretch_end-requires c = omega (arith, bounds (goal.at.stretch_end-requires c).A
 
 pub returns-in-At : goal.returns-in-At
 returns-in-At c image work result patch =
-    frees_at ((held_in ((table_at c.args.hashes.now c.args.sizes.now c.args.count)))) (c.in-At.j) c.args.k (first (goal.at.returns-in-At c).After-blocks_before) (size (goal.at.returns-in-At c).After-blocks_before) (all (goal.at.returns-in-At c).After-blocks_before) (is_at (goal.at.returns-in-At c).After-blocks_before) (areas_of image c.args.stash.now work result patch)
+    frees_at (held_in (table_at c.args.hashes.now c.args.sizes.now c.args.count)) (c.in-At.j) c.args.k (first (goal.at.returns-in-At c).After-blocks_before) (size (goal.at.returns-in-At c).After-blocks_before) (all (goal.at.returns-in-At c).After-blocks_before) (is_at (goal.at.returns-in-At c).After-blocks_before) (areas_of image c.args.stash.now work result patch)
     c.stretch_blocks.ensures
     c.move_down.ensures
     c.stretch_end.ensures
 
 pub returns : goal.returns
 returns c image work result patch =
-    frees_nothing ((held_in ((table_at c.args.hashes.now c.args.sizes.now c.args.count)))) c.args.k
+    frees_nothing (held_in (table_at c.args.hashes.now c.args.sizes.now c.args.count)) c.args.k
     (sym (c.find_stash.ensures c.args.sizes.now) ∙ c.in_default.is)
     (areas_of image c.args.stash.now work result patch)

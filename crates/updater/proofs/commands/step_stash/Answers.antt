@@ -8,12 +8,9 @@ use Rattle.updater.proofs.commands.step_stash.Goals as goal
 use Rattle.updater.proofs.commands.step_stash.Goals.{After-blocks_before-start}
 
 -- all blocks held
-all : (c : After-blocks_before-start) → c.blocks_before-start.result ≡ blocks_held ((held_in ((table_at c.args.hashes.now c.args.sizes.now c.args.count))))
+all : (c : After-blocks_before-start) → c.blocks_before-start.result ≡ blocks_held (held_in (table_at c.args.hashes.now c.args.sizes.now c.args.count))
 all c =
-    blocks-all ((table_at c.args.hashes.now c.args.sizes.now c.args.count)) (c.blocks_before-start.ensures c.args.hashes.now) (omega (arith, c.requires.most))
-
-pub overflow_mul-start : goal.overflow_mul-start
-overflow_mul-start c = omega (arith, all c, c.requires.most)
+    blocks-all (table_at c.args.hashes.now c.args.sizes.now c.args.count) (c.blocks_before-start.ensures c.args.hashes.now) (omega (arith, c.requires.most))
 
 pub copy_over-requires : goal.copy_over-requires
 copy_over-requires c =
@@ -23,11 +20,11 @@ copy_over-requires c =
 pub returns-then-ready-ne0 : goal.returns-then-ready-ne0
 returns-then-ready-ne0 c result patch =
     let a = c.args in
-    stash-writes a.l.now ((held_in ((table_at c.args.hashes.now c.args.sizes.now c.args.count)))) a.hash ((areas_of c.args.image.now c.args.stash.now c.args.work.now) result patch) a.set c.if-ready-ne0.true (all (goal.at.returns-then-ready-ne0 c).After-blocks_before-start)
+    stash-writes a.l.now (held_in (table_at c.args.hashes.now c.args.sizes.now c.args.count)) a.hash ((areas_of c.args.image.now c.args.stash.now c.args.work.now) result patch) a.set c.if-ready-ne0.true (all (goal.at.returns-then-ready-ne0 c).After-blocks_before-start)
     c.copy_over.ensures
 
 pub returns : goal.returns
 returns c result patch =
     let a = c.args in
-    stash-fills a.l.now ((held_in ((table_at c.args.hashes.now c.args.sizes.now c.args.count)))) a.hash ((areas_of c.args.image.now c.args.stash.now c.args.work.now) result patch) a.set c.if-ready-ne0.false (c.fill_stash.ensures result patch)
+    stash-fills a.l.now (held_in (table_at c.args.hashes.now c.args.sizes.now c.args.count)) a.hash ((areas_of c.args.image.now c.args.stash.now c.args.work.now) result patch) a.set c.if-ready-ne0.false (c.fill_stash.ensures result patch)
     c.fill_end.ensures

@@ -3,9 +3,6 @@ use Rattle.std.proofs.Common.{arith, length-take}
 use Rattle.updater.specs.Source.{hashes_to}
 use Rattle.updater.proofs.digest.has_hash.Goals as goal
 
-pub slice_bounds-digest-end : goal.slice_bounds-digest-end
-slice_bounds-digest-end c = simp length-take (omega arith)
-
 pub returns : goal.returns
 unfolding hashes_to
 returns c = cc

@@ -49,12 +49,6 @@ returns-in-Done c =
     ∙ finished-blocks (blocks_at c.args.l.now c.args.at) image c.requires in
     c.same_hash.ensures ∙ rw found
 
-pub overflow_mul-from : goal.overflow_mul-from
-overflow_mul-from c = omega (arith, within c)
-
-pub overflow_add-end : goal.overflow_add-end
-overflow_add-end c = omega (arith, within c)
-
 pub slice_bounds-absorb-end : goal.slice_bounds-absorb-end
 slice_bounds-absorb-end c = omega (arith, within c)
 

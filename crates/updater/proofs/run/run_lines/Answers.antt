@@ -24,17 +24,6 @@ checks c = record {
   result = c.check_line-checked.ensures;
 }
 
-pub lines-init : goal.lines-init
-lines-init c = record {
-  image = refl;
-  stash = refl;
-  work = refl;
-  res = refl;
-  unrefused = c.requires.unrefused;
-  unstopped = refl;
-  runs = run-starts c.args.list.now c.args.terms c.args.piece.now _ c.requires.fits;
-}
-
 pub fault_byte-byte-requires : goal.fault_byte-byte-requires
 fault_byte-byte-requires c =
     checked-fault c.lines.invariant.runs.keeps (checks (goal.at.fault_byte-byte-requires c).After-check_line-checked)

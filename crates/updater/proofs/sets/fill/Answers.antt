@@ -31,33 +31,14 @@ room c =
     let i = c.loop-b.invariant in
     omega (arith, (below_next (length c.args.work.now / block_bytes) (met-place c) i.places).0, i.keeps)
 
-pub loop-b-init : goal.loop-b-init
-loop-b-init c =
-    let h = c.requires in
-    record { keeps = refl; blocks = h.blocks_below; places = h.places_below; sides = h.as_many; same = refl }
-
-pub shape_of-work-in-Done : goal.shape_of-work-in-Done
-shape_of-work-in-Done c = c.loop-b.invariant.keeps
-
 pub returns-in-Done : goal.returns-in-Done
 returns-in-Done c =
     let i = c.loop-b.invariant in
     let e = sym c.next_of.ensures ∙ ap (blocks_from _) c.in-Done.is in
     sym (written-done (none_left e i.sides) _ _) ∙ i.same
 
-pub shape_of-work-in-Done-next_of : goal.shape_of-work-in-Done-next_of
-shape_of-work-in-Done-next_of c = c.loop-b.invariant.keeps
-
-pub returns-in-Done-next_of : goal.returns-in-Done-next_of
-returns-in-Done-next_of c =
-    let e = sym c.next_of-in-Block.ensures ∙ ap (blocks_from _) c.in-Done-next_of.is in
-    absurd (omega (arith, ap length (met (goal.at.returns-in-Done-next_of c).In-Block), ap length e, c.loop-b.invariant.sides))
-
 pub place_block-requires : goal.place_block-requires
 place_block-requires c = record { block_within = within (goal.at.place_block-requires c).In-Block; place_within = room (goal.at.place_block-requires c).In-Block-next_of }
-
-pub loop-b-smaller : goal.loop-b-smaller
-loop-b-smaller c = omega (arith, ap length (met (goal.at.loop-b-smaller c).In-Block))
 
 pub loop-b-preserved : goal.loop-b-preserved
 loop-b-preserved c =

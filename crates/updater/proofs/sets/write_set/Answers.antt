@@ -34,28 +34,13 @@ loop-b-init c =
       ap (λ (bs : List ℕ). written bs c.args.bytes.now c.args.image.now) e,
     )
 
-pub shape_of-image-in-Done : goal.shape_of-image-in-Done
-shape_of-image-in-Done c = c.loop-b.invariant.0
-
 pub returns-in-Done : goal.returns-in-Done
 returns-in-Done c =
     sym (written-done (walk-done _ _ (sym c.next_block.ensures ∙ c.in-Done.is)) _ _)
     ∙ c.loop-b.invariant.3
 
-pub overflow_mul-b : goal.overflow_mul-b
-overflow_mul-b c = omega (arith, within (goal.at.overflow_mul-b c).In-Block)
-
-pub slice_bounds-copy_over-count : goal.slice_bounds-copy_over-count
-slice_bounds-copy_over-count c = omega (arith, enough (goal.at.slice_bounds-copy_over-count c).In-Block)
-
-pub slice_bounds-copy_over-start : goal.slice_bounds-copy_over-start
-slice_bounds-copy_over-start c = omega (arith, enough (goal.at.slice_bounds-copy_over-start c).In-Block)
-
 pub copy_over-requires : goal.copy_over-requires
 copy_over-requires c = (within (goal.at.copy_over-requires c).In-Block, simp (length-take, length-drop) (omega (arith, enough (goal.at.copy_over-requires c).In-Block)))
-
-pub overflow_add-k : goal.overflow_add-k
-overflow_add-k c = omega (arith, enough (goal.at.overflow_add-k c).In-Block)
 
 pub loop-b-smaller : goal.loop-b-smaller
 loop-b-smaller c = omega (arith, ap length (met (goal.at.loop-b-smaller c).In-Block))

@@ -38,19 +38,10 @@ loop-b-init c =
     let e = ap (remaining _) c.walk_from-w.ensures ∙ walk_start c.args.l.now c.args.at in
     (refl, subst (AllBelow _) (sym e) c.requires, ap (λ (bs : List ℕ). zeroed bs c.args.image.now) e)
 
-pub shape_of-image-in-Done : goal.shape_of-image-in-Done
-shape_of-image-in-Done c = c.loop-b.invariant.0
-
 pub returns-in-Done : goal.returns-in-Done
 returns-in-Done c =
     sym (zeroed-done (walk-done _ _ (sym c.next_block.ensures ∙ c.in-Done.is)) _)
     ∙ c.loop-b.invariant.2
-
-pub overflow_mul-start : goal.overflow_mul-start
-overflow_mul-start c = omega (arith, within c)
-
-pub overflow_add-end : goal.overflow_add-end
-overflow_add-end c = omega (arith, within c)
 
 pub slice_bounds-zero_all-end : goal.slice_bounds-zero_all-end
 slice_bounds-zero_all-end c = within c

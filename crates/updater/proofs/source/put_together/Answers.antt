@@ -51,8 +51,8 @@ module _ (l image stash : List ℕ) (xs : List Stash) {source : Source} (work : 
 both : (c : In-Both) → let l = c.args.l.now in
     InImage l c.args.image.now c.in-Both.blocks
     × InWork l c.args.work.now c.in-Both.blocks c.in-Both.places
-    × Spreads l ((held_in (table_at c.args.hashes.now c.args.sizes.now c.args.count))) (blocks_in c.args.work.now) (uses_at l c.in-Both.first)
-both c = sourced-both _ ((held_in (table_at c.args.hashes.now c.args.sizes.now c.args.count))) _ _ c.in-Both.is c.requires.sourced
+    × Spreads l (held_in (table_at c.args.hashes.now c.args.sizes.now c.args.count)) (blocks_in c.args.work.now) (uses_at l c.in-Both.first)
+both c = sourced-both _ (held_in (table_at c.args.hashes.now c.args.sizes.now c.args.count)) _ _ c.in-Both.is c.requires.sourced
 
 -- the walks have the blocks of S and its places
 blocks-walked : (c : After-walk_from-in-Both) → let l = c.args.l.now in remaining l c.walk_from.result ≡ blocks_at l c.in-Both.blocks.at
@@ -63,11 +63,11 @@ places-walked c = walk-blocks _ _ c.walk_from-in-Both.ensures
 
 pub supply-requires : goal.supply-requires
 supply-requires c =
-    sourced-blocks _ ((held_in (table_at c.args.hashes.now c.args.sizes.now c.args.count))) _ _ c.in-Blocks.is c.requires.sourced
+    sourced-blocks _ (held_in (table_at c.args.hashes.now c.args.sizes.now c.args.count)) _ _ c.in-Blocks.is c.requires.sourced
 
 pub spread_stashes-requires : goal.spread_stashes-requires
 spread_stashes-requires c =
-    record { keeps = c.requires.keeps; spreads = sourced-stashes _ ((held_in (table_at c.args.hashes.now c.args.sizes.now c.args.count))) _ _ c.in-Stashes.is c.requires.sourced }
+    record { keeps = c.requires.keeps; spreads = sourced-stashes _ (held_in (table_at c.args.hashes.now c.args.sizes.now c.args.count)) _ _ c.in-Stashes.is c.requires.sourced }
 
 pub fill-requires : goal.fill-requires
 fill-requires c =
@@ -79,24 +79,24 @@ pub spread_stashes-requires-in-Both : goal.spread_stashes-requires-in-Both
 spread_stashes-requires-in-Both c =
     let l = c.args.l.now in record {
       keeps = c.requires.keeps;
-      spreads = subst (λ (n : ℕ). Spreads l ((held_in (table_at c.args.hashes.now c.args.sizes.now c.args.count))) (n / block_bytes) (uses_at l c.in-Both.first))
+      spreads = subst (λ (n : ℕ). Spreads l (held_in (table_at c.args.hashes.now c.args.sizes.now c.args.count)) (n / block_bytes) (uses_at l c.in-Both.first))
           (sym c.fill.auto.work)
           (both (goal.at.spread_stashes-requires-in-Both c).In-Both).2;
     }
 
 pub returns-in-Blocks : goal.returns-in-Blocks
 returns-in-Blocks c =
-    together-blocks c.args.l.now c.args.image.now c.args.stash.now ((held_in (table_at c.args.hashes.now c.args.sizes.now c.args.count))) c.args.work.now c.in-Blocks.is
+    together-blocks c.args.l.now c.args.image.now c.args.stash.now (held_in (table_at c.args.hashes.now c.args.sizes.now c.args.count)) c.args.work.now c.in-Blocks.is
     c.supply.ensures
 
 pub returns-in-Stashes : goal.returns-in-Stashes
 returns-in-Stashes c =
-    together-stashes c.args.l.now c.args.image.now c.args.stash.now ((held_in (table_at c.args.hashes.now c.args.sizes.now c.args.count))) c.args.work.now c.in-Stashes.is
+    together-stashes c.args.l.now c.args.image.now c.args.stash.now (held_in (table_at c.args.hashes.now c.args.sizes.now c.args.count)) c.args.work.now c.in-Stashes.is
     c.spread_stashes.ensures
 
 pub returns-in-Both : goal.returns-in-Both
 returns-in-Both c =
-    together-both c.args.l.now c.args.image.now c.args.stash.now ((held_in (table_at c.args.hashes.now c.args.sizes.now c.args.count))) c.args.work.now c.in-Both.is
+    together-both c.args.l.now c.args.image.now c.args.stash.now (held_in (table_at c.args.hashes.now c.args.sizes.now c.args.count)) c.args.work.now c.in-Both.is
     (blocks-walked (goal.at.returns-in-Both c).After-walk_from-in-Both)
     (places-walked (goal.at.returns-in-Both c).After-walk_from-in-Both)
     c.fill.ensures

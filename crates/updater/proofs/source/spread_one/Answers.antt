@@ -12,24 +12,24 @@ use Rattle.updater.proofs.source.spread_one.Goals as goal
 use Rattle.updater.proofs.source.spread_one.Goals.{After-stash_blocks, After-walk_from}
 
 -- the stash that was found ..
-found : (c : After-stash_blocks) → find_in ((held_in (table_at c.args.hashes.now c.args.sizes.now c.args.count))) c.args.hash ≡ At (c.in-At.j)
+found : (c : After-stash_blocks) → find_in (held_in (table_at c.args.hashes.now c.args.sizes.now c.args.count)) c.args.hash ≡ At (c.in-At.j)
 found c = sym (c.find_stash.ensures c.args.sizes.now) ∙ c.in-At.is
 
 -- .. starts past the older ones ..
-first : (c : After-stash_blocks) → c.blocks_before-start.result ≡ stash_start ((held_in (table_at c.args.hashes.now c.args.sizes.now c.args.count))) (c.in-At.j)
+first : (c : After-stash_blocks) → c.blocks_before-start.result ≡ stash_start (held_in (table_at c.args.hashes.now c.args.sizes.now c.args.count)) (c.in-At.j)
 first c = start_exact _ _ c.requires.keeps (c.in-At.j) (c.blocks_before-start.ensures c.args.hashes.now)
 
 -- .. and has as many blocks as there are places ..
-size : (c : After-stash_blocks) → c.stash_blocks.result ≡ size_at ((held_in (table_at c.args.hashes.now c.args.sizes.now c.args.count))) (c.in-At.j)
+size : (c : After-stash_blocks) → c.stash_blocks.result ≡ size_at (held_in (table_at c.args.hashes.now c.args.sizes.now c.args.count)) (c.in-At.j)
 size c = c.stash_blocks.ensures c.args.hashes.now
 
-fits : (c : After-stash_blocks) → size_at ((held_in (table_at c.args.hashes.now c.args.sizes.now c.args.count))) (c.in-At.j) ≡ length ((blocks_at c.args.l.now c.args.places.at))
+fits : (c : After-stash_blocks) → size_at (held_in (table_at c.args.hashes.now c.args.sizes.now c.args.count)) (c.in-At.j) ≡ length (blocks_at c.args.l.now c.args.places.at)
 fits c = found-size _ _ (found c) c.requires.spread.size
 
 -- .. within the stash area
 within : (c : After-stash_blocks) → block_bytes * (c.blocks_before-start.result + c.stash_blocks.result) ≤ length c.args.stash.now
 within c =
-    omega (arith, first c, size c, fits c, stash-within ((held_in (table_at c.args.hashes.now c.args.sizes.now c.args.count))) c.args.stash.now c.requires.keeps (c.in-At.j) (fits c))
+    omega (arith, first c, size c, fits c, stash-within (held_in (table_at c.args.hashes.now c.args.sizes.now c.args.count)) c.args.stash.now c.requires.keeps (c.in-At.j) (fits c))
 
 -- the walk has the places
 walked : (c : After-walk_from) → remaining c.args.l.now c.walk_from.result ≡ (blocks_at c.args.l.now c.args.places.at)
@@ -46,11 +46,4 @@ fill-requires c =
 pub returns-in-At : goal.returns-in-At
 returns-in-At c =
     let a = c.args in
-    spread_by a.l.now ((held_in (table_at c.args.hashes.now c.args.sizes.now c.args.count))) a.stash.now a.hash a.work.now a.places.at (walked (goal.at.returns-in-At c).After-walk_from) (found (goal.at.returns-in-At c).After-stash_blocks) (first (goal.at.returns-in-At c).After-stash_blocks) (size (goal.at.returns-in-At c).After-stash_blocks) c.fill.ensures
-
-pub returns-in_default : goal.returns-in_default
-returns-in_default c =
-    absurd
-    (found_none _ _
-    (sym (c.find_stash.ensures c.args.sizes.now) ∙ c.in_default.is)
-    c.requires.spread.size)
+    spread_by a.l.now (held_in (table_at c.args.hashes.now c.args.sizes.now c.args.count)) a.stash.now a.hash a.work.now a.places.at (walked (goal.at.returns-in-At c).After-walk_from) (found (goal.at.returns-in-At c).After-stash_blocks) (first (goal.at.returns-in-At c).After-stash_blocks) (size (goal.at.returns-in-At c).After-stash_blocks) c.fill.ensures

@@ -60,18 +60,12 @@ pub loop-places-init : goal.loop-places-init
 loop-places-init c =
     record { ps = _; from = named_start c.args.l.now c.args.first; fits = c.requires.spreads; keeps = refl; same = refl }
 
-pub shape_of-work-in-Bad : goal.shape_of-work-in-Bad
-shape_of-work-in-Bad c = c.loop-places.invariant.keeps
-
 pub returns-in-Bad : goal.returns-in-Bad
 returns-in-Bad c = bad-same c.loop-places.invariant _ c.read_part-part.ensures c.in-Bad.is
 
 pub spread_one-requires : goal.spread_one-requires
 spread_one-requires c =
     let i = c.loop-places.invariant in record { keeps = c.requires.keeps; spread = fits-here i _ c.read_part-part.ensures (last-here i _ c.read_part-part.ensures c.in-Last.is) }
-
-pub shape_of-work-in-Last : goal.shape_of-work-in-Last
-shape_of-work-in-Last c = c.spread_one.auto.work ∙ c.loop-places.invariant.keeps
 
 pub returns-in-Last : goal.returns-in-Last
 returns-in-Last c =

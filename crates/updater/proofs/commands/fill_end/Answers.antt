@@ -1,9 +1,0 @@
--- `fill_end` meets its contract: filled, or refused with the number.
-use Rattle.std.proofs.Common.{eq-eqb, ne_eqb}
-use Rattle.updater.proofs.commands.fill_end.Goals as goal
-
-pub returns-then-number-eq0 : goal.returns-then-number-eq0
-returns-then-number-eq0 c = rw (eq-eqb _ _ c.if-number-eq0.true)
-
-pub returns : goal.returns
-returns c = rw (ne_eqb _ _ c.if-number-eq0.false)

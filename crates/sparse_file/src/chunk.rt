@@ -111,6 +111,7 @@ fn is_past(first: u32, blocks: u32, total: u32) -> bool
 }
 
 // The chunk at a position, with the blocks of all chunks before it and the blocks of the image.
+#[tactic(auto, unfolding(crate::specs::Chunk::chunk_at))]
 pub fn read_chunk(file: &[u8], at: usize, first: u32, total: u32) -> ChunkRead
     ensures { result ≡ chunk_at file.now at first total }
 {

@@ -21,8 +21,7 @@ returns-in-Stash c = rw c.in-Stash.is c.hold.ensures
 
 pub returns-in-At : goal.returns-in-At
 returns-in-At c =
-    c.release.ensures
-    ∙ after_free _ _ c.in-Free.is (c.find_stash.ensures _) c.in-At.is
+    c.release.ensures ∙ after_free _ _ c.in-Free.is (c.find_stash.ensures _) c.in-At.is
 
 pub returns-in-Nothing : goal.returns-in-Nothing
 returns-in-Nothing c = after_free _ _ c.in-Free.is (c.find_stash.ensures _) c.in-Nothing.is

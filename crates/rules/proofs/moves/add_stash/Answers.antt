@@ -32,25 +32,31 @@ module _ (a : Bool) {d : Bool} {n m places : ℕ} (e : n ≡ m) where
   other-size : (n ≡ places → ⊥) → d ≡ true → d ≡ either a (no (eqb m places))
   other-size f g = rw (ne_eqb m places (λ q. f (e ∙ q)), g) (either_or_true a)
 
-differing : (c : Joined-found_blocks-places) → (let a = c.args in
-    c.if-found_blocks-places.differs ≡ either a.sums.differs (no (eqb (stash_blocks (held_in (table_at c.args.hashes.now c.args.sizes.now c.args.count)) a.hash) a.places)))
+-- whether a size differs, past the test
+differing : (c : Joined-found_blocks-places) →
+    c.if-found_blocks-places.differs
+    ≡ either c.args.sums.differs
+    (no (eqb (stash_blocks (held_in (table_at c.args.hashes.now c.args.sizes.now c.args.count)) c.args.hash) c.args.places))
 unfolding stash_blocks
 differing c =
-    let found = c.find_stash-found.ensures c.args.sizes.now in
-    let e = c.found_blocks.ensures c.args.hashes.now ∙ ap (size_found (held_in (table_at c.args.hashes.now c.args.sizes.now c.args.count))) found in
+    let held = held_in (table_at c.args.hashes.now c.args.sizes.now c.args.count) in
+    let e = c.found_blocks.ensures c.args.hashes.now ∙ ap (size_found held) (c.find_stash-found.ensures c.args.sizes.now) in
     let d = c.args.sums.differs in
-    elim c.if-found_blocks-places.branch [ then-found_blocks-places w ↦ same_size d e w.if-found_blocks-places.true w.differs-is | else-found_blocks-places w ↦ other-size d e w.if-found_blocks-places.false w.differs-is ]
+    elim c.if-found_blocks-places.branch [
+      | then-found_blocks-places w ↦ same_size d e w.if-found_blocks-places.true w.differs-is
+      | else-found_blocks-places w ↦ other-size d e w.if-found_blocks-places.false w.differs-is
+    ]
 
 pub returns-in-Nothing : goal.returns-in-Nothing
 returns-in-Nothing c =
     let found = sym (c.find_stash-found.ensures c.args.sizes.now) ∙ c.in-Nothing.is in
-    added _ _ _ _ (rw (find_nothing (held_in (table_at c.args.hashes.now c.args.sizes.now c.args.count)) _ found) (either_or_true c.args.sums.missing))
+    added _ _ _ _ (rw (find_nothing _ _ found) (either_or_true c.args.sums.missing))
     (differing (goal.at.returns-in-Nothing c).Joined-found_blocks-places)
     c.bounded_sum-total.ensures
 
 pub returns-in-At : goal.returns-in-At
 returns-in-At c =
     let found = sym (c.find_stash-found.ensures c.args.sizes.now) ∙ c.in-At.is in
-    added _ _ _ _ (rw (find_held (held_in (table_at c.args.hashes.now c.args.sizes.now c.args.count)) _ found).1 (either_or_false _))
+    added _ _ _ _ (rw (find_held _ _ found).1 (either_or_false _))
     (differing (goal.at.returns-in-At c).Joined-found_blocks-places)
     c.bounded_sum-total.ensures

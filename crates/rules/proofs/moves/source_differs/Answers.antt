@@ -63,8 +63,7 @@ returns-then-sums-2 c l held e w =
 pub returns-in-Blocks : goal.returns-in-Blocks
 unfolding source_differs
 returns-in-Blocks c l held e w =
-    rw c.in-Blocks.is
-    (not-no (eqb c.in-Blocks.set.blocks c.args.n))
+    rw c.in-Blocks.is (not-no (eqb c.in-Blocks.set.blocks c.args.n))
 
 pub returns-else-sums : goal.returns-else-sums
 unfolding source_differs

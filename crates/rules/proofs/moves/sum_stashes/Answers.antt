@@ -92,16 +92,12 @@ returns-in-Bad c = summing_bad c.loop-sums.invariant c.read_part-part.ensures c.
 
 pub returns-in-Last : goal.returns-in-Last
 returns-in-Last c =
-    summing_last c.loop-sums.invariant c.read_part-part.ensures
-    c.in-Last.is c.add_stash.ensures
+    summing_last c.loop-sums.invariant c.read_part-part.ensures c.in-Last.is c.add_stash.ensures
 
 pub loop-sums-smaller : goal.loop-sums-smaller
 loop-sums-smaller c =
-    let m =
-    summing_more c.loop-sums.invariant c.read_part-part.ensures
-    c.in-More.is c.add_stash-sums.ensures in
+    let m = summing_more c.loop-sums.invariant c.read_part-part.ensures c.in-More.is c.add_stash-sums.ensures in
     omega arith
 
 pub loop-sums-preserved : goal.loop-sums-preserved
-loop-sums-preserved c = (summing_more c.loop-sums.invariant c.read_part-part.ensures
-    c.in-More.is c.add_stash-sums.ensures).2
+loop-sums-preserved c = (summing_more c.loop-sums.invariant c.read_part-part.ensures c.in-More.is c.add_stash-sums.ensures).2

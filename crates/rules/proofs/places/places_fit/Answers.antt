@@ -63,6 +63,5 @@ returns-else-not-take_places c =
     let k = c.clear_marks-in-Both in
     fit _ _ _ _ (omega arith) k.ensures.sized k.ensures.clear
     (pass-last
-    (pass_some _ _ (begin_both _ _ _ c.in-Both.is) c.take_places.ensures
-    c.if-not-take_places.false)
+    (pass_some _ _ (begin_both _ _ _ c.in-Both.is) c.take_places.ensures c.if-not-take_places.false)
     c.take_uses-in-Both.ensures)

@@ -5,7 +5,6 @@ use Prim.Native.Nat.{ℕ, ◌-◌, ◌<◌}
 use native.Mathlib.Omega.{arith}
 use mathlib.Core.List.{List, ◌∷◌, ◌++◌}
 use lib.ListN.{length}
-use borrow.Author.Tests.{not-true, not-false}
 use Rattle.ranges.specs.declared.walk.Walk.{Walk}
 use Rattle.ranges.specs.declared.walk.Step.{Step}
 use Rattle.ranges.specs.declared.walk.Step.TheVariants.{Block}
@@ -40,23 +39,17 @@ returns-in-Done c = pass-done (pass-left (walk-done _ _ (sym c.next_block.ensure
 
 pub returns-then-n-p : goal.returns-then-n-p
 returns-then-n-p c =
-    pass-past
-    (pass_block _ _ c.loop-p.invariant
-    c.next_block.ensures c.in-Block.is)
-    (omega arith)
+    pass-past (pass_block _ _ c.loop-p.invariant c.next_block.ensures c.in-Block.is) (omega arith)
 
 pub returns-then-not-take_place : goal.returns-then-not-take_place
 returns-then-not-take_place c =
-    pass_twice
-    (pass_block _ _ c.loop-p.invariant
-    c.next_block.ensures c.in-Block.is)
-    (omega arith) (sym c.take_place.ensures.answer ∙ not-true _ c.if-not-take_place.true-raw)
+    pass_twice (pass_block _ _ c.loop-p.invariant c.next_block.ensures c.in-Block.is) (omega arith) (sym c.take_place.ensures.answer ∙ c.if-not-take_place.true)
 
 pub returns-then-not-take_range : goal.returns-then-not-take_range
 returns-then-not-take_range c =
     pass_fails _ _
     (pass_range _ _ c.loop-p.invariant c.next_block.ensures c.in-Block.is (omega arith)
-    (sym c.take_place.ensures.answer ∙ not-false _ c.if-not-take_place.false-raw) c.take_place.ensures.marked)
+    (sym c.take_place.ensures.answer ∙ c.if-not-take_place.false) c.take_place.ensures.marked)
     c.take_range.ensures c.if-not-take_range.true
 
 pub loop-p-smaller : goal.loop-p-smaller
@@ -67,5 +60,5 @@ loop-p-preserved c =
     pass-left (ap (remaining _) (sym c.past_range-w.ensures))
     (pass_some _ _
     (pass_range _ _ c.loop-p.invariant c.next_block.ensures c.in-Block.is (omega arith)
-    (sym c.take_place.ensures.answer ∙ not-false _ c.if-not-take_place.false-raw) c.take_place.ensures.marked)
+    (sym c.take_place.ensures.answer ∙ c.if-not-take_place.false) c.take_place.ensures.marked)
     c.take_range.ensures c.if-not-take_range.false)

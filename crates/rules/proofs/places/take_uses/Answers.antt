@@ -61,23 +61,19 @@ returns-in-Bad c = naming_bad c.loop-places.invariant _ c.read_part-part.ensures
 
 pub returns-in-Last : goal.returns-in-Last
 returns-in-Last c =
-    naming_last c.loop-places.invariant _
-    c.read_part-part.ensures c.in-Last.is c.take_places.ensures
+    naming_last c.loop-places.invariant _ c.read_part-part.ensures c.in-Last.is c.take_places.ensures
 
 pub returns-then-not-take_places : goal.returns-then-not-take_places
 returns-then-not-take_places c =
-    naming_fails c.loop-places.invariant _
-    c.read_part-part.ensures c.in-More.is
+    naming_fails c.loop-places.invariant _ c.read_part-part.ensures c.in-More.is
     c.take_places-in-More.ensures c.if-not-take_places.true
 
 pub loop-places-smaller : goal.loop-places-smaller
 loop-places-smaller c =
-    let h = naming_next c.loop-places.invariant _
-    c.read_part-part.ensures c.in-More.is in
+    let h = naming_next c.loop-places.invariant _ c.read_part-part.ensures c.in-More.is in
     omega arith
 
 pub loop-places-preserved : goal.loop-places-preserved
 loop-places-preserved c =
-    naming_more c.loop-places.invariant _
-    c.read_part-part.ensures c.in-More.is
+    naming_more c.loop-places.invariant _ c.read_part-part.ensures c.in-More.is
     c.take_places-in-More.ensures c.if-not-take_places.false

@@ -8,7 +8,10 @@ use Rattle.state.specs.Sums.{bounded}
 use Rattle.state.proofs.stashes.blocks_before.Given as goal
 
 abbrev pub invariant-loop-j : goal.invariant-loop-j
-invariant-loop-j l = (l.j ≤ l.n) × (l.j ≤ l.most) × ((hashes : List ℕ) → l.sum ≡ bounded (blocks_held (take l.j (held_in (table_at hashes l.sizes l.count)))))
+invariant-loop-j l =
+    (l.j ≤ l.n)
+    × (l.j ≤ l.most)
+    × ((hashes : List ℕ) → l.sum ≡ bounded (blocks_held (take l.j (held_in (table_at hashes l.sizes l.count)))))
 
 abbrev pub decreases-loop-j : goal.decreases-loop-j
 decreases-loop-j l = l.n - l.j

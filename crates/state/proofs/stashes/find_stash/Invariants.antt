@@ -13,7 +13,10 @@ later k (At j) = At (k + j)
 later k Nothing = Nothing
 
 abbrev pub invariant-loop-j : goal.invariant-loop-j
-invariant-loop-j l = (l.j ≤ l.n) × ((sizes : List ℕ) → find_in (held_in (table_at l.hashes sizes l.count)) l.hash ≡ later l.j (find_in (entries l.hashes sizes l.j (l.n - l.j)) l.hash))
+invariant-loop-j l =
+    (l.j ≤ l.n)
+    × ((sizes : List ℕ) →
+    find_in (held_in (table_at l.hashes sizes l.count)) l.hash ≡ later l.j (find_in (entries l.hashes sizes l.j (l.n - l.j)) l.hash))
 
 abbrev pub decreases-loop-j : goal.decreases-loop-j
 decreases-loop-j l = l.n - l.j

@@ -6,7 +6,10 @@ use Rattle.state.specs.Stashes.{table_at, entries, held_in, holds_empty}
 use Rattle.state.proofs.stashes.holds_empty.Given as goal
 
 abbrev pub invariant-loop-j : goal.invariant-loop-j
-invariant-loop-j l = (l.j ≤ l.n) × ((hashes : List ℕ) → holds_empty (held_in (table_at hashes l.sizes l.count)) ≡ holds_empty (entries hashes l.sizes l.j (l.n - l.j)))
+invariant-loop-j l =
+    (l.j ≤ l.n)
+    × ((hashes : List ℕ) →
+    holds_empty (held_in (table_at hashes l.sizes l.count)) ≡ holds_empty (entries hashes l.sizes l.j (l.n - l.j)))
 
 abbrev pub decreases-loop-j : goal.decreases-loop-j
 decreases-loop-j l = l.n - l.j

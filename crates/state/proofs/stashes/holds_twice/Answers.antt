@@ -36,7 +36,10 @@ returns-then-again_after c =
     sym (c.loop-j.invariant.1 sizes ∙ twice_here _ sizes _ _ (omega arith) (sym (c.again_after.ensures sizes) ∙ c.if-again_after.true))
 
 pub loop-j-preserved : goal.loop-j-preserved
-loop-j-preserved c = (omega arith, λ sizes. c.loop-j.invariant.1 sizes ∙ twice_on _ sizes _ _ (omega arith) (sym (c.again_after.ensures sizes) ∙ c.if-again_after.false))
+loop-j-preserved c = (
+  omega arith,
+  λ sizes. c.loop-j.invariant.1 sizes ∙ twice_on _ sizes _ _ (omega arith) (sym (c.again_after.ensures sizes) ∙ c.if-again_after.false),
+)
 
 pub returns : goal.returns
 returns c = λ sizes. sym (c.loop-j.invariant.1 sizes ∙ twice_end _ sizes _ _ (omega arith))

@@ -1,6 +1,6 @@
 -- `move_down` meets its contract.
 use Rattle.std.proofs.Common.{arith}
-use Rattle.state.proofs.CopyLaws.{moved_none, moved-next, moved_all}
+use Rattle.state.proofs.CopyLaws.{moved-next, moved_all}
 use Rattle.updater.specs.Bytes.{moved_down}
 use Rattle.updater.proofs.areas.move_down.Goals as goal
 

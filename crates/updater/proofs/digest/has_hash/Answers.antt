@@ -1,5 +1,4 @@
 -- `has_hash` meets its contract: the digest of the first n blocks, compared with the hash.
-use Rattle.std.proofs.Common.{arith, length-take}
 use Rattle.updater.specs.Source.{hashes_to}
 use Rattle.updater.proofs.digest.has_hash.Goals as goal
 

@@ -8,9 +8,11 @@ use Rattle.updater.specs.Bytes.{gathered}
 use Rattle.updater.proofs.digest.set_has_hash.Given as goal
 
 abbrev pub invariant-loop-found : goal.invariant-loop-found
-invariant-loop-found l = (l.hasher.count < 2 ^ 64)
-    × AllBelow (length l.image / block_bytes) (remaining l.l l.w)
-    × (absorbed l.hasher (gathered (remaining l.l l.w) l.image) ≡ absorbed started (gathered (blocks_at l.l l.at) l.image))
+invariant-loop-found l = record {
+  count : l.hasher.count < 2 ^ 64;
+  blocks : AllBelow (length l.image / block_bytes) (remaining l.l l.w);
+  same : absorbed l.hasher (gathered (remaining l.l l.w) l.image) ≡ absorbed started (gathered (blocks_at l.l l.at) l.image);
+}
 
 abbrev pub decreases-loop-found : goal.decreases-loop-found
 decreases-loop-found l = length (remaining l.l l.w)

@@ -1,10 +1,10 @@
 -- `run_lines` meets its contract: each turn of the loop is a step of the machine, or the bytes of a `new` and a step.
-use Rattle.std.proofs.Common.{◌-◌, ◌^◌, ◌<◌, length, sym, refl, ◌∙◌, arith}
+use Rattle.std.proofs.Common.{◌-◌, ◌^◌, ◌<◌, length, sym, ◌∙◌, arith}
 use Rattle.state.specs.States.{state_with}
 use Rattle.updater.specs.Areas.{areas_of}
 use Rattle.updater.specs.Steps.{Config, config_of}
 use Rattle.updater.proofs.RunnableLaws.{next-line, next_stretch}
-use Rattle.updater.proofs.RunLaws.{Checks, run-starts, checked-at, checked-fault, checked-stretches, checked-runs}
+use Rattle.updater.proofs.RunLaws.{Checks, checked-at, checked-fault, checked-stretches, checked-runs}
 use Rattle.updater.proofs.RunLaws.{new_in_image, new_counts, further-at, further-line, further-refusal, stops-finished, refuses, stops, runs, halts, lacks}
 use Rattle.updater.proofs.RunLaws.{fills, came}
 use Rattle.updater.proofs.run.run_lines.Goals as goal

@@ -11,18 +11,21 @@ none_left : {bs ps : List ℕ} → bs ≡ [] → length bs ≡ length ps → ps 
 none_left {ps = []} e h = refl
 none_left {ps = p ∷ ps} e h = absurd (omega (arith, ap length e, h))
 
+-- the area that the blocks are of
+abbrev area : In-Block → List ℕ
+area c = pick c.args.stashed c.args.stash.now c.args.image.now
+
 -- the block at hand is the first of those that are left
-met : (c : In-Block) → blocks_left c.args.l.now c.loop-b.from
-    ≡ c.in-Block.b ∷ blocks_left c.args.l.now c.in-Block.more
+met : (c : In-Block) → blocks_left c.args.l.now c.loop-b.from ≡ c.in-Block.b ∷ blocks_left c.args.l.now c.in-Block.more
 met c = sym c.next_of.ensures ∙ ap (blocks_from _) c.in-Block.is
 
 -- .. and within its area
-within : (c : In-Block) → block_bytes * c.in-Block.b + block_bytes ≤ length (pick c.args.stashed c.args.stash.now c.args.image.now)
-within c = omega (arith, (below_next (length (pick c.args.stashed c.args.stash.now c.args.image.now) / block_bytes) (met c) c.loop-b.invariant.blocks).0)
+within : (c : In-Block) → block_bytes * c.in-Block.b + block_bytes ≤ length (area c)
+within c = omega (arith, (below_next (length (area c) / block_bytes) (met c) c.loop-b.invariant.blocks).0)
 
 -- the place at hand is the first of those that are left
-met-place : (c : In-Block-next_of) → blocks_left c.args.l.now c.loop-b.to
-    ≡ c.in-Block-next_of.p ∷ blocks_left c.args.l.now c.in-Block-next_of.rest
+met-place : (c : In-Block-next_of) →
+    blocks_left c.args.l.now c.loop-b.to ≡ c.in-Block-next_of.p ∷ blocks_left c.args.l.now c.in-Block-next_of.rest
 met-place c = sym c.next_of-in-Block.ensures ∙ ap (blocks_from _) c.in-Block-next_of.is
 
 -- .. and within the work area
@@ -38,18 +41,20 @@ returns-in-Done c =
     sym (written-done (none_left e i.sides) _ _) ∙ i.same
 
 pub place_block-requires : goal.place_block-requires
-place_block-requires c = record { block_within = within (goal.at.place_block-requires c).In-Block; place_within = room (goal.at.place_block-requires c).In-Block-next_of }
+place_block-requires c =
+    let at = goal.at.place_block-requires c in
+    record { block_within = within at.In-Block; place_within = room at.In-Block-next_of }
 
 pub loop-b-preserved : goal.loop-b-preserved
 loop-b-preserved c =
+    let at = goal.at.loop-b-preserved c in
     let i = c.loop-b.invariant in
-    let e = met (goal.at.loop-b-preserved c).In-Block in
-    let f = met-place (goal.at.loop-b-preserved c).In-Block-next_of in
-    let placed = c.place_block in
+    let e = met at.In-Block in
+    let f = met-place at.In-Block-next_of in
     record {
-      keeps = placed.auto.work ∙ i.keeps;
+      keeps = c.place_block.auto.work ∙ i.keeps;
       blocks = (below_next _ e i.blocks).1;
       places = (below_next _ f i.places).1;
       sides = omega (arith, ap length e, ap length f, i.sides);
-      same = gathered_next e f (pick c.args.stashed c.args.stash.now c.args.image.now) c.loop-b.work (within (goal.at.loop-b-preserved c).In-Block) placed.ensures ∙ i.same;
+      same = gathered_next e f (area at.In-Block) c.loop-b.work (within at.In-Block) c.place_block.ensures ∙ i.same;
     }

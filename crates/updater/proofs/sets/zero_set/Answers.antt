@@ -23,25 +23,27 @@ zeros-back image part b h e =
     rw (n, f)
 
 -- the block at hand is the first of those that are left
-met : (c : In-Block) → remaining c.args.l.now c.loop-b.w
-    ≡ c.in-Block.b ∷ remaining c.args.l.now c.in-Block.rest
+met : (c : In-Block) → remaining c.args.l.now c.loop-b.w ≡ c.in-Block.b ∷ remaining c.args.l.now c.in-Block.rest
 met c = walk_block _ _ (sym c.next_block.ensures ∙ c.in-Block.is)
 
 -- .. and within the image
 within : (c : In-Block) → block_bytes * c.in-Block.b + block_bytes ≤ length c.loop-b.image
 within c =
     let i = c.loop-b.invariant in
-    omega (arith, (below_next (length c.args.image.now / block_bytes) (met c) i.1).0, i.0)
+    omega (arith, (below_next (length c.args.image.now / block_bytes) (met c) i.blocks).0, i.keeps)
 
 pub loop-b-init : goal.loop-b-init
 loop-b-init c =
     let e = ap (remaining _) c.walk_from-w.ensures ∙ walk_start c.args.l.now c.args.at in
-    (refl, subst (AllBelow _) (sym e) c.requires, ap (λ (bs : List ℕ). zeroed bs c.args.image.now) e)
+    record {
+      keeps = refl;
+      blocks = subst (AllBelow _) (sym e) c.requires;
+      same = ap (λ (bs : List ℕ). zeroed bs c.args.image.now) e;
+    }
 
 pub returns-in-Done : goal.returns-in-Done
 returns-in-Done c =
-    sym (zeroed-done (walk-done _ _ (sym c.next_block.ensures ∙ c.in-Done.is)) _)
-    ∙ c.loop-b.invariant.2
+    sym (zeroed-done (walk-done _ _ (sym c.next_block.ensures ∙ c.in-Done.is)) _) ∙ c.loop-b.invariant.same
 
 pub slice_bounds-zero_all-end : goal.slice_bounds-zero_all-end
 slice_bounds-zero_all-end c = within c
@@ -51,9 +53,11 @@ loop-b-smaller c = omega (arith, ap length (met (goal.at.loop-b-smaller c).In-Bl
 
 pub loop-b-preserved : goal.loop-b-preserved
 loop-b-preserved c =
+    let here = (goal.at.loop-b-preserved c).In-Block in
     let i = c.loop-b.invariant in
-    let e = zeros-back _ _ _ (within (goal.at.loop-b-preserved c).In-Block) c.zero_all.ensures in (
-      ap length e ∙ length_over c.loop-b.image (block_bytes * c.in-Block.b) (replicate block_bytes 0) (within (goal.at.loop-b-preserved c).In-Block) ∙ i.0,
-      (below_next _ (met (goal.at.loop-b-preserved c).In-Block) i.1).1,
-      zeroed-next (met (goal.at.loop-b-preserved c).In-Block) _ e ∙ i.2,
-    )
+    let e = zeros-back _ _ _ (within here) c.zero_all.ensures in
+    record {
+      keeps = ap length e ∙ length_over c.loop-b.image (block_bytes * c.in-Block.b) (replicate block_bytes 0) (within here) ∙ i.keeps;
+      blocks = (below_next _ (met here) i.blocks).1;
+      same = zeroed-next (met here) _ e ∙ i.same;
+    }

@@ -63,18 +63,20 @@ loop-places-init c =
 pub returns-in-Bad : goal.returns-in-Bad
 returns-in-Bad c = bad-same c.loop-places.invariant _ c.read_part-part.ensures c.in-Bad.is
 
-pub spread_one-requires : goal.spread_one-requires
-spread_one-requires c =
-    let i = c.loop-places.invariant in record { keeps = c.requires.keeps; spread = fits-here i _ c.read_part-part.ensures (last-here i _ c.read_part-part.ensures c.in-Last.is) }
+pub spread_one-requires-clause-spread : goal.spread_one-requires-clause-spread
+spread_one-requires-clause-spread c =
+    let i = c.loop-places.invariant in
+    let e = c.read_part-part.ensures in
+    fits-here i _ e (last-here i _ e c.in-Last.is)
 
 pub returns-in-Last : goal.returns-in-Last
-returns-in-Last c =
-    last-same c.loop-places.invariant _ c.read_part-part.ensures c.in-Last.is
-    c.spread_one.ensures
+returns-in-Last c = last-same c.loop-places.invariant _ c.read_part-part.ensures c.in-Last.is c.spread_one.ensures
 
-pub spread_one-requires-in-More : goal.spread_one-requires-in-More
-spread_one-requires-in-More c =
-    let i = c.loop-places.invariant in record { keeps = c.requires.keeps; spread = fits-here i _ c.read_part-part.ensures (more-here i _ c.read_part-part.ensures c.in-More.is).1 }
+pub spread_one-requires-in-More-clause-spread : goal.spread_one-requires-in-More-clause-spread
+spread_one-requires-in-More-clause-spread c =
+    let i = c.loop-places.invariant in
+    let e = c.read_part-part.ensures in
+    fits-here i _ e (more-here i _ e c.in-More.is).1
 
 pub loop-places-smaller : goal.loop-places-smaller
 loop-places-smaller c =
@@ -83,5 +85,4 @@ loop-places-smaller c =
 
 pub loop-places-preserved : goal.loop-places-preserved
 loop-places-preserved c =
-    more_left c.loop-places.invariant _ c.read_part-part.ensures c.in-More.is
-    c.requires.keeps c.spread_one-in-More.ensures
+    more_left c.loop-places.invariant _ c.read_part-part.ensures c.in-More.is c.requires.keeps c.spread_one-in-More.ensures

@@ -9,15 +9,18 @@ use Rattle.updater.proofs.source.supply.Goals as goal
 use Rattle.updater.proofs.source.supply.Goals.{After-walk_from}
 
 -- the walk has the blocks of S
-walked : (c : After-walk_from) → let a = c.args in remaining a.l.now c.walk_from.result ≡ blocks_at a.l.now a.set.at
+walked : (c : After-walk_from) → remaining c.args.l.now c.walk_from.result ≡ blocks_at c.args.l.now c.args.set.at
 walked c = walk-blocks _ _ c.walk_from.ensures
 
 pub fill-requires : goal.fill-requires
 fill-requires c =
-    let a = c.args in
-    let h = c.requires in record { blocks_below = subst (AllBelow _) (sym (walked c)) h.0.below; places_below = below_span (length a.work.now / block_bytes) 0 (a.set.blocks - 0) (omega (arith, h.1)); as_many = omega (arith, ap length (walked c), h.0.size, length-span 0 (a.set.blocks - 0)) }
+    let h = c.requires in
+    let n = c.args.set.blocks in
+    record {
+      blocks_below = subst (AllBelow _) (sym (walked c)) h.0.below;
+      places_below = below_span (length c.args.work.now / block_bytes) 0 (n - 0) (omega (arith, h.1));
+      as_many = omega (arith, ap length (walked c), h.0.size, length-span 0 (n - 0));
+    }
 
 pub returns : goal.returns
-returns c =
-    let a = c.args in
-    supplied_by a.l.now a.image.now a.work.now a.set.at a.set.blocks (walked (goal.at.returns c).After-walk_from) c.fill.ensures
+returns c = supplied_by _ _ _ _ _ (walked (goal.at.returns c).After-walk_from) c.fill.ensures

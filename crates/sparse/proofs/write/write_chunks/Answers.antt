@@ -15,7 +15,7 @@ loop-left-init c =
 
 pub returns-in_default : goal.returns-in_default
 returns-in_default c =
-    over_none _ _ (ap (λ (w : Chunks). w.list) (chunks_bad _ _ _ _ _ c.loop-left-test.true (sym c.read_chunk.ensures ∙ c.in_default.is)))
+    over_none _ _ (ap (λ (w : Chunks). w.list) (chunks_bad _ _ _ _ c.loop-left.left (omega arith) (sym c.read_chunk.ensures ∙ c.in_default.is)))
     ∙ c.loop-left.invariant.0
 
 pub write_chunk-requires : goal.write_chunk-requires
@@ -28,7 +28,7 @@ overflow_add-first c = record { fits = omega (arith, (chunk_within _ _ _ _ _ (sy
 
 pub loop-left-preserved : goal.loop-left-preserved
 loop-left-preserved c = (
-  over-next _ _ _ (chunks_good _ _ _ _ _ c.loop-left-test.true (sym c.read_chunk.ensures ∙ c.in-Good.is)) c.write_chunk.ensures
+  over-next _ _ _ (chunks_good _ _ _ _ c.loop-left.left (omega arith) (sym c.read_chunk.ensures ∙ c.in-Good.is)) c.write_chunk.ensures
       ∙ c.loop-left.invariant.0,
   (chunk_within _ _ _ _ _ (sym c.read_chunk.ensures ∙ c.in-Good.is)).blocks,
   omega arith,

@@ -1,17 +1,16 @@
--- `possible::frees_on` meets its contract: each variant is a case of `frees_on`. The blocks held are below the bound,
--- so the sums are whole.
+-- `frees_on` meets its contract. The blocks held are below the bound, so the sums are whole.
 use Prim.Native.Nat.{ℕ, ◌+◌, ◌-◌, ◌≤◌, ◌<◌}
-use mathlib.Core.Bool.{Bool, false}
+use mathlib.Core.Bool.{Bool}
 use mathlib.Core.List.{List}
 use mathlib.Core.Path.{◌≡◌, sym, ◌∙◌}
 use native.Mathlib.Omega.{arith}
 use lib.ListN.{take}
 use Rattle.state.specs.Limits.{most_stashes}
-use Rattle.state.specs.Stashes.{Stash, Table, table_at, held_in, find_in, size_at, blocks_held, stash_start}
+use Rattle.state.specs.Stashes.{Table, table_at, held_in, find_in, size_at, blocks_held, stash_start}
 use Rattle.state.specs.Stretches.{is_stretch}
 use Rattle.state.specs.Sums.{bound, bounded}
 use Rattle.state.specs.declared.stashes.Found.{Found}
-use Rattle.state.specs.declared.stashes.Found.TheVariants.{At, Nothing}
+use Rattle.state.specs.declared.stashes.Found.TheVariants.{At}
 use Rattle.state.proofs.StashLaws.{blocks_held-before}
 use Rattle.state.proofs.TableLaws.{blocks-all}
 use Rattle.command.specs.declared.Command.{Command}
@@ -34,11 +33,6 @@ module _ (t : Table) (few : blocks_held (held_in t) < bound) (j : ℕ) {gap star
   unfolding frees_on found_stretch
   found k hash free is at e = rw (free, sym is ∙ at, ← size, ← start-whole, ← blocks-all t sum few) e
 
-missing : (held : List Stash) (k : ℕ) (hash : List ℕ) {c : Command} {f : Found} → c ≡ Free → f ≡ find_in held hash → f ≡ Nothing →
-    false ≡ frees_on held k hash c
-unfolding frees_on found_stretch
-missing held k hash free is e = rw (free, sym is ∙ e)
-
 fits : (c : After-blocks_before-all) → (c.blocks_before-start.result + c.stash_blocks-gap.result ≤ c.blocks_before-all.result) × (c.blocks_before-all.result < bound)
 fits c =
     parts_fit (table_at c.args.hashes.now c.args.sizes.now c.args.count) c.requires c.in-At.j (c.stash_blocks-gap.ensures _) (c.blocks_before-start.ensures _)
@@ -54,39 +48,3 @@ pub returns-in-At : goal.returns-in-At
 returns-in-At c =
     found (table_at c.args.hashes.now c.args.sizes.now c.args.count) c.requires c.in-At.j (c.stash_blocks-gap.ensures _) (c.blocks_before-start.ensures _) (c.blocks_before-all.ensures _) _ _
     c.in-Free.is (c.find_stash.ensures _) c.in-At.is c.is_stretch.ensures
-
-pub returns-in-Nothing : goal.returns-in-Nothing
-returns-in-Nothing c =
-    missing _ _ _ c.in-Free.is (c.find_stash.ensures _) c.in-Nothing.is
-
-pub returns-in-Zero : goal.returns-in-Zero
-unfolding frees_on
-returns-in-Zero c = rw c.in-Zero.is
-
-pub returns-in-Erase : goal.returns-in-Erase
-unfolding frees_on
-returns-in-Erase c = rw c.in-Erase.is
-
-pub returns-in-New : goal.returns-in-New
-unfolding frees_on
-returns-in-New c = rw c.in-New.is
-
-pub returns-in-Move : goal.returns-in-Move
-unfolding frees_on
-returns-in-Move c = rw c.in-Move.is
-
-pub returns-in-Bsdiff : goal.returns-in-Bsdiff
-unfolding frees_on
-returns-in-Bsdiff c = rw c.in-Bsdiff.is
-
-pub returns-in-Stash : goal.returns-in-Stash
-unfolding frees_on
-returns-in-Stash c = rw c.in-Stash.is
-
-pub returns-in-Unsupported : goal.returns-in-Unsupported
-unfolding frees_on
-returns-in-Unsupported c = rw c.in-Unsupported.is
-
-pub returns-in-Bad : goal.returns-in-Bad
-unfolding frees_on
-returns-in-Bad c = rw c.in-Bad.is

@@ -1,13 +1,8 @@
 -- The answer line put together: a text after a text that stands at the start of a buffer, and digits as `decimal` has them.
 -- Assumes nothing.
-use Prim.Native.Nat.{ℕ, zero, suc, ◌+◌, ◌-◌, ◌*◌, ◌/◌, ◌^◌, ◌≤◌, ◌<◌}
-use mathlib.Core.Path.{◌≡◌, sym, ◌∙◌}
-use mathlib.Core.List.{List, ◌++◌}
-use native.Mathlib.Omega.{arith}
-use native.Mathlib.Nat.{div-lt_iff_lt-mul, le-div_iff_mul-le, div-lt_self, one-le-pow, pow-suc, pow-le-pow_right, lt_of_not-le}
-use lib.ListN.{length, length-append}
-use lib.Seq.{paste, take-append_seam, take-length, drop-append-add, drop-drop}
-use borrow.Author.Tests.{lt-ltb, le-ltb}
+use Rattle.std.proofs.Common.{ℕ, zero, suc, ◌+◌, ◌-◌, ◌*◌, ◌/◌, ◌^◌, ◌≤◌, ◌<◌, ◌≡◌, sym, ◌∙◌, List, ◌++◌, arith, length, length-append, drop-drop, div-lt_iff_lt-mul, le-div_iff_mul-le, pow-suc, lt_of_not-le, lt-ltb, le-ltb}
+use Rattle.std.proofs.Math.Nat.{div-lt_self, one-le-pow, pow-le-pow_right}
+use Rattle.std.proofs.Math.Seq.{paste, take-append_seam, take-length, drop-append-add}
 use Rattle.io.specs.Digits.{last_digits, IsDigitCount}
 use Rattle.decisions.specs.Answer.{decimal_in, decimal, most_digits, starting_with, zeros, line_of}
 use Rattle.decisions.specs.declared.answer.Line.{Line}

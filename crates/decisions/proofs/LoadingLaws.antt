@@ -1,13 +1,6 @@
 -- Laws of `specs/Loading.antt`.
 -- Assumes nothing.
-use mathlib.Core.Bool.{Bool}
-use mathlib.Core.List.{List}
-use Prim.Native.Nat.{ℕ, ◌*◌, ◌≤◌}
-use native.Mathlib.Omega.{arith}
-use lib.ListN.{length}
-use lib.Dec.{ltb}
-use borrow.Author.Tests.{ltb-false}
-use Rattle.text.specs.Choice.{pick}
+use Rattle.std.proofs.Common.{ℕ, ◌*◌, ◌≤◌, Bool, List, arith, length, ltb, ltb-false}
 use Rattle.text.proofs.ChoiceLaws.{picks}
 use Rattle.state.specs.Limits.{block_bytes}
 use Rattle.sparse_file.specs.Header.{total_blocks}

@@ -12,6 +12,7 @@ pub const SPARSE_BYTES: usize = 2 * IMAGE_BYTES;
 pub const TOO_LARGE: usize = IMAGE_BYTES + 1;
 
 // How long an image the file is read over: as the one that was found, else as the header says.
+#[tactic(auto, unfolding(crate::specs::Loading::image_bytes))]
 pub fn image_bytes(file: &[u8], found: bool, image: usize) -> usize
     ensures { result ≡ image_bytes file.now found image }
 {

@@ -5,12 +5,17 @@
 ghost use Rattle.std.specs.Prelude.{◌≤◌, length};
 ghost use Rattle.io.specs.Counts.{IsPrefixLen};
 
-use libc::{PATH_MAX, STDIN_FILENO, STDOUT_FILENO};
 use records::fields::{rest, which};
+use records::streams::{INPUT_ROOM, read_full, say, say_hex};
+use std::fs;
+use std::fs::File;
+use std::rt::Files;
+use std::str::from_utf8;
 
-fn wide(x: u8) -> u64 {
-    x as u64
-}
+// A path has fewer bytes.
+const PATH_ROOM: usize = 4096;
+
+const IMAGE_ROOM: usize = 65536;
 
 // Puts as much of a text at a place of a path as there is room for, and answers where it ends.
 fn put(out: &mut [u8], at: usize, text: &[u8]) -> usize
@@ -39,83 +44,94 @@ fn in_folder(folder: &[u8], name: &[u8], out: &mut [u8]) -> usize
     put(out, b, name)
 }
 
-fn show(d: [u8; 20]) {
-    let mut i = 0;
-    while i < 20 {
-        io::print_hex(STDOUT_FILENO, wide(d[i]), 2);
-        i += 1;
+fn show(out: &impl Print, d: [u8; 20]) {
+    for byte in &d {
+        say_hex(out, *byte);
     }
 }
 
-fn show_file(path: &[u8]) {
-    let fd = os::open_read(path);
-    if fd < 0 {
-        io::write_all(STDOUT_FILENO, b"no image\n");
+// std opens no file whose name is no text.
+fn open<R: Files>(rt: &R, path: &[u8]) -> Option<R::File> {
+    let Ok(text) = from_utf8(path) else {
+        return None;
+    };
+    fs::open(rt, text).ok()
+}
+
+fn show_file<R: Files + Print>(rt: &R, path: &[u8]) {
+    let Some(mut file) = open(rt, path) else {
+        say(rt, b"no image\n");
         return;
-    }
-    let mut buf = io::large_buffer();
-    let n = io::read_full(fd, &mut buf);
-    libc::close(fd);
-    show(sha1_digest::digest(&buf[..n]));
-    io::write_all(STDOUT_FILENO, b"\n");
+    };
+    let mut buf = [0u8; IMAGE_ROOM];
+    let n = read_full(&mut file, &mut buf);
+    show(rt, sha1_digest::digest(&buf[..n]));
+    say(rt, b"\n");
 }
 
-fn show_image(folder: &[u8]) {
-    let mut image = [0u8; PATH_MAX];
+fn show_image<R: Files + Print>(rt: &R, folder: &[u8]) {
+    let mut image = [0u8; PATH_ROOM];
     let n = in_folder(folder, b"system.img", &mut image);
-    show_file(&image[..n]);
+    show_file(rt, &image[..n]);
 }
 
-fn update_folder(folder: &[u8]) {
-    let mut list = [0u8; PATH_MAX];
-    let mut image = [0u8; PATH_MAX];
-    let mut data = [0u8; PATH_MAX];
-    let mut patch = [0u8; PATH_MAX];
-    let mut copy = [0u8; PATH_MAX];
+fn update_folder<R: Files<File = File> + Print + Eprint>(rt: &R, folder: &[u8]) {
+    let mut list = [0u8; PATH_ROOM];
+    let mut image = [0u8; PATH_ROOM];
+    let mut data = [0u8; PATH_ROOM];
+    let mut patch = [0u8; PATH_ROOM];
+    let mut copy = [0u8; PATH_ROOM];
     let a = in_folder(folder, b"system.transfer.list", &mut list);
     let b = in_folder(folder, b"system.img", &mut image);
     let c = in_folder(folder, b"system.new.dat", &mut data);
     let d = in_folder(folder, b"system.patch.dat", &mut patch);
     let e = in_folder(folder, b"system.img.updated", &mut copy);
-    package::update(&list[..a], &image[..b], &data[..c], &patch[..d], &copy[..e]);
+    package::update(
+        rt,
+        &list[..a],
+        &image[..b],
+        &data[..c],
+        &patch[..d],
+        &copy[..e],
+    );
 }
 
-fn load_folder(folder: &[u8]) {
-    let mut file = [0u8; PATH_MAX];
-    let mut image = [0u8; PATH_MAX];
-    let mut copy = [0u8; PATH_MAX];
+fn load_folder<R: Files<File = File> + Print + Eprint>(rt: &R, folder: &[u8]) {
+    let mut file = [0u8; PATH_ROOM];
+    let mut image = [0u8; PATH_ROOM];
+    let mut copy = [0u8; PATH_ROOM];
     let a = in_folder(folder, b"system.simg", &mut file);
     let b = in_folder(folder, b"system.img", &mut image);
     let c = in_folder(folder, b"system.img.updated", &mut copy);
-    package::load::load_sparse(&file[..a], &image[..b], &copy[..c]);
+    package::load::load_sparse(rt, &file[..a], &image[..b], &copy[..c]);
 }
 
-fn run_folder(line: &[u8]) {
+fn run_folder<R: Files<File = File> + Print + Eprint>(rt: &R, line: &[u8]) {
     let folder = rest(line, 1);
-    io::write_all(STDOUT_FILENO, folder);
-    io::write_all(STDOUT_FILENO, b": ");
+    say(rt, folder);
+    say(rt, b": ");
     match which(line, b"update load") {
-        0 => update_folder(folder),
-        1 => load_folder(folder),
+        0 => update_folder(rt, folder),
+        1 => load_folder(rt, folder),
         _ => {}
     }
-    show_image(folder);
+    show_image(rt, folder);
 }
 
-fn run_folders(lines: &[u8]) {
+fn run_folders<R: Files<File = File> + Print + Eprint>(rt: &R, lines: &[u8]) {
     let mut from = 0;
     let mut i = 0;
     while i < lines.len() {
         if lines[i] == b'\n' {
-            run_folder(&lines[from..i]);
+            run_folder(rt, &lines[from..i]);
             from = i + 1;
         }
         i += 1;
     }
 }
 
-fn main() {
-    let mut lines = io::large_buffer();
-    let n = io::read_full(STDIN_FILENO, &mut lines);
-    run_folders(&lines[..n]);
+fn main(rt: HostRuntime) {
+    let mut lines = [0u8; INPUT_ROOM];
+    let n = read_full(&mut rt.reader(), &mut lines);
+    run_folders(&rt, &lines[..n]);
 }

@@ -1,7 +1,7 @@
 // The list and the areas that lines of input lend.
-use crate::say::say;
 use records::buffers::put;
 use records::fields::{field, number, rest};
+use records::streams::say;
 use state::limits::BLOCK_BYTES;
 
 fn byte_of(letter: u8) -> u8 {
@@ -50,10 +50,16 @@ pub(crate) fn lend_area(
 }
 
 // A list of n bytes after a line of input, whose first word is `case`, `list` or a later one. The answer is its length.
-pub(crate) fn lend_list(list: &mut [u8], line: &[u8], word: usize, n: usize) -> usize {
+pub(crate) fn lend_list(
+    out: &impl Print,
+    list: &mut [u8],
+    line: &[u8],
+    word: usize,
+    n: usize,
+) -> usize {
     if word == 0 {
-        say(rest(line, 1));
-        say(b"\n");
+        say(out, rest(line, 1));
+        say(out, b"\n");
         return 0;
     }
     if word == 1 {

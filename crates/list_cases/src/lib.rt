@@ -29,12 +29,11 @@ use crate::patches::lend_patch;
 use crate::saves::{damage, save_and_restore};
 use crate::say::{report, say_state};
 use crate::states::alter;
-use libc::STDIN_FILENO;
 use records::buffers::{fill_pattern, part};
 use records::fields::{field, number, which};
+use records::streams::{INPUT_ROOM, read_full};
 use sequence::run_pieces;
 use state::{Lengths, State};
-use std::num::wrapping_add_usize;
 use transfer_list::open;
 use updater::{Called, Outcome, call};
 
@@ -49,6 +48,8 @@ const LIST_ROOM: usize = 4194305;
 
 const AREA_ROOM: usize = 65536;
 
+const DATA_ROOM: usize = 65536;
+
 const MOST_CUTS: usize = 8;
 
 // More calls than any list of the cases stops.
@@ -56,6 +57,7 @@ const MOST_CALLS: usize = 65536;
 
 // What a line of input lends: the lengths after it.
 fn lend(
+    out: &impl Print,
     line: &[u8],
     list: &mut [u8],
     image: &mut [u8],
@@ -67,7 +69,7 @@ fn lend(
 ) -> Lengths {
     let word = which(line, b"case list image stash work result");
     Lengths {
-        list: lend_list(list, line, word, l.list),
+        list: lend_list(out, list, line, word, l.list),
         image: lend_area(image, line, word == 2, word == 0, b"ABCDEFGH", l.image),
         stash: lend_area(stash, line, word == 3, word == 0, b"000", l.stash),
         work: lend_area(work, line, word == 4, word == 0, b"000", l.work),
@@ -99,6 +101,7 @@ fn first_cuts(cuts: &[usize], n: usize) -> &[usize] {
 
 // An opening and its calls: the state after the last.
 fn run_cut(
+    out: &impl Print,
     line: &[u8],
     list: &[u8],
     image: &mut [u8],
@@ -121,7 +124,7 @@ fn run_cut(
         bytes,
         first_cuts(&*cuts, n),
     );
-    report(called, &*image, &*stash, &*work, &*res);
+    report(out, called, &*image, &*stash, &*work, &*res);
     called.state
 }
 
@@ -136,6 +139,7 @@ fn is_stop(outcome: Outcome) -> bool {
 
 // Calls until the run does not stop, or so many: the state after the last. What is reported as taken is the sum.
 fn calls(
+    out: &impl Print,
     list: &[u8],
     image: &mut [u8],
     stash: &mut [u8],
@@ -166,10 +170,11 @@ fn calls(
         );
         s = called.state;
         outcome = called.outcome;
-        taken = wrapping_add_usize(taken, called.taken);
+        taken = taken.wrapping_add(called.taken);
         left -= 1;
     }
     report(
+        out,
         Called {
             state: s,
             outcome,
@@ -185,6 +190,7 @@ fn calls(
 
 // What a line of input runs over the areas: the state after it.
 fn act(
+    out: &impl Print,
     line: &[u8],
     list: &[u8],
     image: &mut [u8],
@@ -206,21 +212,25 @@ fn act(
         ),
         1 => {
             let piece = part(data, number(line, 1), number(line, 2));
-            calls(list, image, stash, work, res, patch, piece, s, MOST_CALLS)
+            calls(
+                out, list, image, stash, work, res, patch, piece, s, MOST_CALLS,
+            )
         }
         2 => {
             let mut cuts = [0usize; MOST_CUTS];
-            run_cut(line, list, image, stash, work, res, patch, data, &mut cuts)
+            run_cut(
+                out, line, list, image, stash, work, res, patch, data, &mut cuts,
+            )
         }
         3 => {
             let piece = part(data, number(line, 1), number(line, 2));
-            let last = calls(list, image, stash, work, res, patch, piece, s, 1);
-            say_state(last);
+            let last = calls(out, list, image, stash, work, res, patch, piece, s, 1);
+            say_state(out, last);
             last
         }
-        4 => save_and_restore(s),
+        4 => save_and_restore(out, s),
         5 => {
-            damage(s);
+            damage(out, s);
             s
         }
         _ => s,
@@ -235,6 +245,7 @@ fn least(a: usize, b: usize) -> usize
 
 // The same over buffers that hold the areas.
 fn act_within(
+    out: &impl Print,
     line: &[u8],
     list: &[u8],
     image: &mut [u8],
@@ -251,6 +262,7 @@ fn act_within(
     let work_end = least(l.work, work.len());
     let result_end = least(l.result, res.len());
     act(
+        out,
         line,
         part(list, 0, l.list),
         &mut image[0..image_end],
@@ -265,6 +277,7 @@ fn act_within(
 
 // The lines of the input, one after the other.
 fn run(
+    out: &impl Print,
     text: &[u8],
     list: &mut [u8; LIST_ROOM],
     image: &mut [u8; AREA_ROOM],
@@ -289,10 +302,10 @@ fn run(
         if text[i] == b'\n' {
             let line = &text[from..i];
             from = i + 1;
-            l = lend(line, list, image, stash, work, res, patch, l);
+            l = lend(out, line, list, image, stash, work, res, patch, l);
             let altered = alter(s, line);
             s = act_within(
-                line, &*list, image, stash, work, res, &*patch, data, l, altered,
+                out, line, &*list, image, stash, work, res, &*patch, data, l, altered,
             );
         }
         i += 1;
@@ -300,18 +313,19 @@ fn run(
 }
 
 // Reads standard input and runs it.
-pub fn run_cases() {
-    let mut text = io::large_buffer();
-    let n = io::read_full(STDIN_FILENO, &mut text);
+pub fn run_cases<R: Input + Print>(rt: &R) {
+    let mut text = [0u8; INPUT_ROOM];
+    let n = read_full(&mut rt.reader(), &mut text);
     let mut list = [0u8; LIST_ROOM];
     let mut image = [0u8; AREA_ROOM];
     let mut stash = [0u8; AREA_ROOM];
     let mut work = [0u8; AREA_ROOM];
     let mut result = [0u8; AREA_ROOM];
     let mut patch = [0u8; AREA_ROOM];
-    let mut data = io::large_buffer();
+    let mut data = [0u8; DATA_ROOM];
     fill_pattern(&mut data);
     run(
+        rt,
         &text[..n],
         &mut list,
         &mut image,

@@ -1,9 +1,8 @@
 // Saved forms, read back as they are and damaged.
-use crate::say::{say, say_number};
 use records::buffers::part;
+use records::streams::{say, say_number};
 use saved::{SAVED_BYTES, restore, save};
 use state::{Progress, State};
-use std::num::wrapping_add_usize;
 
 const LONGER: usize = SAVED_BYTES + 1;
 
@@ -30,14 +29,14 @@ fn saved_form(s: State) -> [u8; SAVED_BYTES] {
 }
 
 // The state that is read back from the saved form.
-pub(crate) fn save_and_restore(s: State) -> State {
+pub(crate) fn save_and_restore(out: &impl Print, s: State) -> State {
     let bytes = saved_form(s);
     let restored = restore(&bytes);
-    say(b"  saved ");
-    say_number(bytes.len());
-    say(b", restored ");
-    say_number(restored.number);
-    say(b"\n");
+    say(out, b"  saved ");
+    say_number(out, bytes.len());
+    say(out, b", restored ");
+    say_number(out, restored.number);
+    say(out, b"\n");
     restored.state
 }
 
@@ -49,7 +48,7 @@ fn read_back(bytes: &[u8]) -> usize {
     }
     let state = restored.state;
     let again = saved_form(state);
-    if check::same(bytes, &again) {
+    if bytes == again.as_slice() {
         return 1;
     }
     2
@@ -66,9 +65,9 @@ struct Tally {
 fn counted(t: Tally, found: usize) -> Tally {
     let mut next = t;
     match found {
-        0 => next.refused = wrapping_add_usize(t.refused, 1),
-        1 => next.other = wrapping_add_usize(t.other, 1),
-        _ => next.neither = wrapping_add_usize(t.neither, 1),
+        0 => next.refused = t.refused.wrapping_add(1),
+        1 => next.other = t.other.wrapping_add(1),
+        _ => next.neither = t.neither.wrapping_add(1),
     }
     next
 }
@@ -99,18 +98,18 @@ fn read_longer(saved: [u8; SAVED_BYTES]) -> usize {
 }
 
 // Each byte altered in turn, a byte cut off, and one added.
-pub(crate) fn damage(s: State) {
+pub(crate) fn damage(out: &impl Print, s: State) {
     let saved = saved_form(s);
     let t = alter_each(saved);
-    say(b"  damaged: refused ");
-    say_number(t.refused);
-    say(b", other states ");
-    say_number(t.other);
-    say(b", neither ");
-    say_number(t.neither);
-    say(b"; a byte short ");
-    say_number(read_back(part(&saved, 0, SAVED_BYTES - 1)));
-    say(b", a byte long ");
-    say_number(read_longer(saved));
-    say(b"\n");
+    say(out, b"  damaged: refused ");
+    say_number(out, t.refused);
+    say(out, b", other states ");
+    say_number(out, t.other);
+    say(out, b", neither ");
+    say_number(out, t.neither);
+    say(out, b"; a byte short ");
+    say_number(out, read_back(part(&saved, 0, SAVED_BYTES - 1)));
+    say(out, b", a byte long ");
+    say_number(out, read_longer(saved));
+    say(out, b"\n");
 }

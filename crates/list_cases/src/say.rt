@@ -1,30 +1,22 @@
 // What a call leaves, printed.
-use libc::STDOUT_FILENO;
 use records::buffers::part;
+use records::streams::{say, say_hex, say_number};
 use state::State;
 use state::limits::BLOCK_BYTES;
 use updater::{Called, Outcome};
 
-pub(crate) fn say(bytes: &[u8]) {
-    io::write_all(STDOUT_FILENO, bytes);
-}
-
-pub(crate) fn say_number(n: usize) {
-    io::print_decimal(STDOUT_FILENO, n as u64);
-}
-
-fn say_outcome(outcome: Outcome) {
+fn say_outcome(out: &impl Print, outcome: Outcome) {
     match outcome {
-        Outcome::Done => say(b"  done"),
-        Outcome::More => say(b"  more"),
-        Outcome::Stop => say(b"  stop"),
+        Outcome::Done => say(out, b"  done"),
+        Outcome::More => say(out, b"  more"),
+        Outcome::Stop => say(out, b"  stop"),
         Outcome::Refused(refusal) => {
-            say(b"  refused ");
-            say_number(refusal.number);
-            say(b" ");
-            say_number(refusal.line);
-            say(b" ");
-            say_number(refusal.byte);
+            say(out, b"  refused ");
+            say_number(out, refusal.number);
+            say(out, b" ");
+            say_number(out, refusal.line);
+            say(out, b" ");
+            say_number(out, refusal.byte);
         }
     }
 }
@@ -35,70 +27,77 @@ fn is_filled(block: &[u8]) -> bool {
     if n == 0 {
         return false;
     }
-    check::same(part(block, 0, n - 1), part(block, 1, n))
+    part(block, 0, n - 1) == part(block, 1, n)
 }
 
-fn say_letter(block: &[u8]) {
-    if check::same(part(block, 0, 1), &[0]) {
-        say(b"0");
+fn say_letter(out: &impl Print, block: &[u8]) {
+    if part(block, 0, 1) == b"\0".as_slice() {
+        say(out, b"0");
         return;
     }
-    say(part(block, 0, 1));
+    say(out, part(block, 0, 1));
 }
 
-fn say_digest(block: &[u8]) {
+fn say_digest(out: &impl Print, block: &[u8]) {
     let digest = sha1_digest::digest(block);
-    say(b"[");
-    io::print_hex(STDOUT_FILENO, digest[0] as u64, 2);
-    io::print_hex(STDOUT_FILENO, digest[1] as u64, 2);
-    io::print_hex(STDOUT_FILENO, digest[2] as u64, 2);
-    io::print_hex(STDOUT_FILENO, digest[3] as u64, 2);
-    say(b"]");
+    say(out, b"[");
+    say_hex(out, digest[0]);
+    say_hex(out, digest[1]);
+    say_hex(out, digest[2]);
+    say_hex(out, digest[3]);
+    say(out, b"]");
 }
 
-fn say_block(block: &[u8]) {
+fn say_block(out: &impl Print, block: &[u8]) {
     if block.len() == 0 {
         return;
     }
     if is_filled(block) {
-        say_letter(block);
+        say_letter(out, block);
         return;
     }
-    say_digest(block);
+    say_digest(out, block);
 }
 
-fn say_area(label: &[u8], area: &[u8]) {
-    say(label);
+fn say_area(out: &impl Print, label: &[u8], area: &[u8]) {
+    say(out, label);
     let mut k = 0;
     while k <= area.len() / BLOCK_BYTES {
-        say_block(part(area, k * BLOCK_BYTES, BLOCK_BYTES));
+        say_block(out, part(area, k * BLOCK_BYTES, BLOCK_BYTES));
         k += 1;
     }
 }
 
-pub(crate) fn report(called: Called, image: &[u8], stash: &[u8], work: &[u8], res: &[u8]) {
+pub(crate) fn report(
+    out: &impl Print,
+    called: Called,
+    image: &[u8],
+    stash: &[u8],
+    work: &[u8],
+    res: &[u8],
+) {
     let outcome = called.outcome;
-    say_outcome(outcome);
-    say(b", taken ");
-    say_number(called.taken);
-    say_area(b", image ", image);
-    say_area(b", stash ", stash);
-    say_area(b", work ", work);
-    say_area(b", result ", res);
-    say(b"\n");
+    say_outcome(out, outcome);
+    say(out, b", taken ");
+    say_number(out, called.taken);
+    say_area(out, b", image ", image);
+    say_area(out, b", stash ", stash);
+    say_area(out, b", work ", work);
+    say_area(out, b", result ", res);
+    say(out, b"\n");
 }
 
 // What a stop leaves to save, besides stashes and position.
-pub(crate) fn say_state(s: State) {
-    say(b"    line ");
-    say_number(s.line);
-    say(b", stashes ");
-    say_number(s.count);
-    say(b", total ");
-    say_number(s.total);
-    say(b", ready ");
-    say_number(s.ready);
-    say(b", stretches ");
-    say_number(s.stretches);
-    say(b"\n");
+pub(crate) fn say_state(out: &impl Print, s: State) {
+    say(out, b"    line ");
+    say_number(out, s.line);
+    say(out, b", stashes ");
+    say_number(out, s.count);
+    say(out, b", total ");
+    say_number(out, s.total);
+    say(out, b", ready ");
+    say_number(out, s.ready);
+    say(out, b", stretches ");
+    say_number(out, s.stretches);
+    say(out, b"\n");
 }

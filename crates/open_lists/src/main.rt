@@ -9,40 +9,36 @@
 //   open                                   opens it
 #![tactic(auto)]
 
-use libc::{STDIN_FILENO, STDOUT_FILENO};
 use records::buffers::{part, put};
 use records::fields::{number, rest, which};
+use records::streams::{INPUT_ROOM, read_full, say, say_number};
 use state::Lengths;
 
 // One byte more than a list may have.
 const LIST_ROOM: usize = 4194305;
 
-fn say(bytes: &[u8]) {
-    io::write_all(STDOUT_FILENO, bytes);
-}
-
-fn say_opened(list: &[u8], l: Lengths) {
+fn say_opened(out: &impl Print, list: &[u8], l: Lengths) {
     let opened = transfer_list::open(list, l.image, l.stash, l.work, l.result, l.patch);
     let refusal = opened.refusal;
     if refusal.number == 0 {
-        say(b"accepted\n");
+        say(out, b"accepted\n");
         return;
     }
-    say(b"refused ");
-    io::print_decimal(STDOUT_FILENO, refusal.number as u64);
-    say(b" ");
-    io::print_decimal(STDOUT_FILENO, refusal.line as u64);
-    say(b" ");
-    io::print_decimal(STDOUT_FILENO, refusal.byte as u64);
-    say(b"\n");
+    say(out, b"refused ");
+    say_number(out, refusal.number);
+    say(out, b" ");
+    say_number(out, refusal.line);
+    say(out, b" ");
+    say_number(out, refusal.byte);
+    say(out, b"\n");
 }
 
 // What a line of input does; the answer is the lengths after it.
-fn step(line: &[u8], list: &mut [u8], l: Lengths) -> Lengths {
+fn step(out: &impl Print, line: &[u8], list: &mut [u8], l: Lengths) -> Lengths {
     match which(line, b"case areas open") {
         0 => {
-            say(rest(line, 1));
-            say(b": ");
+            say(out, rest(line, 1));
+            say(out, b": ");
             Lengths {
                 list: 0,
                 image: 32768,
@@ -61,7 +57,7 @@ fn step(line: &[u8], list: &mut [u8], l: Lengths) -> Lengths {
             patch: number(line, 5),
         },
         2 => {
-            say_opened(part(&*list, 0, l.list), l);
+            say_opened(out, part(&*list, 0, l.list), l);
             l
         }
         _ => Lengths {
@@ -76,7 +72,7 @@ fn step(line: &[u8], list: &mut [u8], l: Lengths) -> Lengths {
 }
 
 // The lines of the input, one after the other.
-fn run(text: &[u8], list: &mut [u8; LIST_ROOM]) {
+fn run(out: &impl Print, text: &[u8], list: &mut [u8; LIST_ROOM]) {
     let mut l = Lengths {
         list: 0,
         image: 0,
@@ -89,16 +85,16 @@ fn run(text: &[u8], list: &mut [u8; LIST_ROOM]) {
     let mut i = 0;
     while i < text.len() {
         if text[i] == b'\n' {
-            l = step(&text[from..i], list, l);
+            l = step(out, &text[from..i], list, l);
             from = i + 1;
         }
         i += 1;
     }
 }
 
-fn main() {
-    let mut text = io::large_buffer();
-    let n = io::read_full(STDIN_FILENO, &mut text);
+fn main(rt: HostRuntime) {
+    let mut text = [0u8; INPUT_ROOM];
+    let n = read_full(&mut rt.reader(), &mut text);
     let mut list = [0u8; LIST_ROOM];
-    run(&text[..n], &mut list);
+    run(&rt, &text[..n], &mut list);
 }

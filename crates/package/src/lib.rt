@@ -8,6 +8,7 @@ ghost use Rattle.std.specs.Prelude.{◌≤◌, length};
 ghost use Rattle.io.specs.Counts.{IsPrefixLen};
 ghost use Rattle.decisions.specs.Program.{piece_bytes};
 
+use crate::files::{open_read, open_update};
 use crate::read::{Loaded, Opened, check_opened, fill, read_file};
 use crate::standard::hold_standard;
 use crate::write_back::write_back;
@@ -16,11 +17,15 @@ use decisions::{
     AREA_BYTES, IMAGE_BYTES, LIST_BYTES, PATCH_BYTES, calls_on, is_stop, open_list, patch_length,
     size_refusal,
 };
-use libc::STDOUT_FILENO;
 use state::{Refusal, State};
+use std::fs::File;
+use std::io::Read;
+use std::rt::Files;
 use updater::{Called, Outcome, call};
 
+mod files;
 pub mod load;
+mod messages;
 mod read;
 mod standard;
 mod write_back;
@@ -45,11 +50,12 @@ fn refused(refusal: Refusal) -> Outcome {
     Outcome::Refused(refusal)
 }
 
-fn say(outcome: Outcome, taken: u64) {
+// An answer that cannot be printed is told nowhere.
+fn say(rt: &impl Print, outcome: Outcome, taken: u64) {
     let line = answer_line(outcome, taken);
     let bytes = line.bytes;
     let n = line.length;
-    io::write_all(STDOUT_FILENO, &bytes[..n]);
+    let _ = rt.write_all(&bytes[..n]);
 }
 
 // Calls with a piece, and after each stop with what is left of it. The calls are counted: that stops come to an end is no contract of one call.
@@ -90,13 +96,14 @@ fn call_on(
 }
 
 // One piece after the other; the first is read already. The turns are counted, since nothing says that a file ends.
-fn run(
+fn run<F: Read>(
+    rt: &impl Eprint,
     list: &[u8],
     image: &mut [u8],
     patch: &[u8],
     piece: &mut [u8],
     first: usize,
-    data: i32,
+    data: &mut Option<F>,
     data_path: &[u8],
     opened: State,
 ) -> Ran
@@ -126,7 +133,7 @@ fn run(
         if !calls_on(outcome, n) {
             return Ran::To(outcome, taken);
         }
-        let Loaded::Bytes(next) = fill(data, data_path, piece) else {
+        let Loaded::Bytes(next) = fill(rt, data, data_path, piece) else {
             return Ran::Failed;
         };
         n = next;
@@ -135,36 +142,52 @@ fn run(
     Ran::To(Outcome::More, taken)
 }
 
+// An image that is absent has no bytes to write.
+fn write_found<R: Files + Eprint>(
+    rt: &R,
+    image_file: &mut Option<R::File>,
+    path: &[u8],
+    copy_path: &[u8],
+    image: &[u8],
+) -> bool {
+    match image_file {
+        Some(file) => write_back(rt, file, path, copy_path, image),
+        None => true,
+    }
+}
+
 // Every file is read before anything is decided, the new data as far as its first piece.
-fn update_opened(
+fn update_opened<R: Files + Print + Eprint>(
+    rt: &R,
     list: &[u8],
     patch: &[u8],
-    image_file: i32,
+    image_file: &mut Option<R::File>,
     image_path: &[u8],
-    data: i32,
+    data: &mut Option<R::File>,
     data_path: &[u8],
     copy_path: &[u8],
 ) {
     let mut image = [0u8; IMAGE_ROOM];
     let mut piece = [0u8; PIECE_BYTES];
-    let Loaded::Bytes(m) = fill(image_file, image_path, &mut image) else {
+    let Loaded::Bytes(m) = fill(rt, image_file, image_path, &mut image) else {
         return;
     };
-    let Loaded::Bytes(n) = fill(data, data_path, &mut piece) else {
+    let Loaded::Bytes(n) = fill(rt, data, data_path, &mut piece) else {
         return;
     };
     let size = size_refusal(list.len(), m);
     if size.number != 0 {
-        say(refused(size), 0);
+        say(rt, refused(size), 0);
         return;
     }
     let opened = open_list(list, m, patch.len());
     let refusal = opened.refusal;
     if refusal.number != 0 {
-        say(refused(refusal), 0);
+        say(rt, refused(refusal), 0);
         return;
     }
     let ran = run(
+        rt,
         list,
         &mut image[..m],
         patch,
@@ -177,48 +200,49 @@ fn update_opened(
     let Ran::To(outcome, taken) = ran else {
         return;
     };
-    if write_back(image_file, image_path, copy_path, &image[..m]) {
-        say(outcome, taken);
+    if write_found(rt, image_file, image_path, copy_path, &image[..m]) {
+        say(rt, outcome, taken);
     }
 }
 
 // Applies an update and prints the answer line. A file that is there and cannot be read, or an image that cannot be written, gets a
 // message on standard error instead. The copy is what is about to be written, kept while the image is written.
-pub fn update(
+pub fn update<R: Files<File = File> + Print + Eprint>(
+    rt: &R,
     list_path: &[u8],
     image_path: &[u8],
     data_path: &[u8],
     patch_path: &[u8],
     copy_path: &[u8],
 ) {
-    if !hold_standard() {
+    if !hold_standard(rt) {
         return;
     }
     let mut list = [0u8; LIST_ROOM];
-    let Loaded::Bytes(n) = read_file(list_path, &mut list) else {
+    let Loaded::Bytes(n) = read_file(rt, list_path, &mut list) else {
         return;
     };
     let mut patch = [0u8; PATCH_ROOM];
-    let Loaded::Bytes(p) = read_file(patch_path, &mut patch) else {
+    let Loaded::Bytes(p) = read_file(rt, patch_path, &mut patch) else {
         return;
     };
     let length = patch_length(p);
-    let Opened::At(image) = check_opened(os::open_update(image_path), image_path) else {
+    let image_opened = open_update(rt, image_path);
+    let Opened::At(mut image) = check_opened(rt, image_opened, image_path) else {
         return;
     };
-    let Opened::At(data) = check_opened(os::open_read(data_path), data_path) else {
-        libc::close(image);
+    let data_opened = open_read(rt, data_path);
+    let Opened::At(mut data) = check_opened(rt, data_opened, data_path) else {
         return;
     };
     update_opened(
+        rt,
         &list[..n],
         &patch[..length],
-        image,
+        &mut image,
         image_path,
-        data,
+        &mut data,
         data_path,
         copy_path,
     );
-    libc::close(data);
-    libc::close(image);
 }

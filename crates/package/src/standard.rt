@@ -1,20 +1,29 @@
 // Standard output and standard error.
-use libc::STDERR_FILENO;
+use crate::files::open_update;
+use crate::messages::tell;
+use std::fs::File;
+use std::os::fd::{AsRawFd, IntoRawFd, RawFd};
+use std::rt::Files;
+
+const STANDARD_ERROR: RawFd = 2;
 
 // A file that is opened gets the lowest number that is free. Where standard output or error is closed, that would be theirs, and what is
-// printed would go into the file: so their numbers are taken first.
-pub(crate) fn hold_standard() -> bool {
+// printed would go into the file: so their numbers are taken first, and stay taken.
+pub(crate) fn hold_standard<R: Files<File = File> + Eprint>(rt: &R) -> bool {
     let path = b"/dev/null";
     let mut left: usize = 3;
     while 0 < left {
-        let fd = os::open_update(path);
-        if fd < 0 {
-            os::fail(path);
-            return false;
-        }
-        if STDERR_FILENO < fd {
-            libc::close(fd);
-            return true;
+        match open_update(rt, path) {
+            Ok(file) => {
+                if STANDARD_ERROR < file.as_raw_fd() {
+                    return true;
+                }
+                let _ = file.into_raw_fd();
+            }
+            Err(error) => {
+                tell(rt, path, &error);
+                return false;
+            }
         }
         left -= 1;
     }

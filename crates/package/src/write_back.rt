@@ -3,7 +3,12 @@
 // is such a copy, which gets the image's name.
 ghost use Rattle.io.specs.Counts.{IsPrefixLen};
 
-use libc::{SEEK_CUR, SEEK_SET};
+use crate::files::{create, open_read, remove, rename};
+use crate::messages::tell;
+use std::fs::{OpenFile, Permissions};
+use std::io::{Result, Seek, SeekFrom, Write};
+use std::os::unix::fs::PermissionsExt;
+use std::rt::Files;
 
 // How much of a path is the name of its folder, with the slash at the end; 0 for a name alone.
 fn folder_bytes(path: &[u8]) -> usize
@@ -19,120 +24,123 @@ fn folder_bytes(path: &[u8]) -> usize
     0
 }
 
-fn sync_at(folder: &[u8]) -> bool {
-    let fd = os::open_read(folder);
-    if fd < 0 {
-        return false;
-    }
-    let synced = libc::fsync(fd);
-    libc::close(fd);
-    synced == 0
+fn sync_at(rt: &impl Files, folder: &[u8]) -> Result<()> {
+    let file = open_read(rt, folder)?;
+    file.sync_all()
 }
 
 // The names in a path's folder reach the device.
-fn sync_folder(path: &[u8]) -> bool {
+fn sync_folder(rt: &impl Files, path: &[u8]) -> Result<()> {
     let n = folder_bytes(path);
     if n == 0 {
-        return sync_at(b".");
+        return sync_at(rt, b".");
     }
-    sync_at(&path[..n])
+    sync_at(rt, &path[..n])
 }
 
 // The copy is one byte too long until its bytes are synced: one of the image's length is whole.
-fn write_copy(fd: i32, image: &[u8]) -> bool {
-    if !io::write_all(fd, image) {
-        return false;
-    }
-    let end = libc::lseek(fd, 0, SEEK_CUR);
-    if !io::write_all(fd, b"\n") {
-        return false;
-    }
-    if libc::fsync(fd) != 0 {
-        return false;
-    }
-    if libc::ftruncate(fd, end) != 0 {
-        return false;
-    }
-    libc::fsync(fd) == 0
+fn write_copy<F: Write + Seek + OpenFile>(file: &mut F, image: &[u8]) -> Result<()> {
+    file.write_all(image)?;
+    let end = file.seek(SeekFrom::Current(0))?;
+    file.write_all(b"\n")?;
+    file.sync_all()?;
+    file.set_len(end)?;
+    file.sync_all()
 }
 
 // A copy of an image that is there may be read by its owner alone, as the image may be.
-fn write_private(fd: i32, image: &[u8]) -> bool {
-    if libc::fchmod(fd, 0o600) != 0 {
-        return false;
-    }
-    write_copy(fd, image)
+fn write_private<F: Write + Seek + OpenFile>(file: &mut F, image: &[u8]) -> Result<()> {
+    file.set_permissions(Permissions::from_mode(0o600))?;
+    write_copy(file, image)
 }
 
-fn write_new(fd: i32, image: &[u8], private: bool) -> bool {
+fn write_new<F: Write + Seek + OpenFile>(file: &mut F, image: &[u8], private: bool) -> Result<()> {
     if private {
-        return write_private(fd, image);
+        return write_private(file, image);
     }
-    write_copy(fd, image)
+    write_copy(file, image)
+}
+
+// Writes the copy into a new file, which is closed then, and sees to its name.
+fn finish_copy<R: Files>(
+    rt: &R,
+    mut file: R::File,
+    path: &[u8],
+    image: &[u8],
+    private: bool,
+) -> Result<()> {
+    write_new(&mut file, image, private)?;
+    drop(file);
+    sync_folder(rt, path)
 }
 
 // Makes the copy, unless its name is taken.
-fn keep_copy(path: &[u8], image: &[u8], private: bool) -> bool {
-    let fd = os::create(path);
-    if fd < 0 {
-        os::fail(path);
+fn keep_copy<R: Files + Eprint>(rt: &R, path: &[u8], image: &[u8], private: bool) -> bool {
+    let file = match create(rt, path) {
+        Ok(file) => file,
+        Err(error) => {
+            tell(rt, path, &error);
+            return false;
+        }
+    };
+    if let Err(error) = finish_copy(rt, file, path, image, private) {
+        tell(rt, path, &error);
+        let _ = remove(rt, path);
         return false;
     }
-    let written = write_new(fd, image, private);
-    libc::close(fd);
-    if written {
-        if sync_folder(path) {
-            return true;
-        }
-    }
-    os::fail(path);
-    os::unlink(path);
-    false
+    true
 }
 
-fn overwrite(fd: i32, image: &[u8]) -> bool {
-    if libc::lseek(fd, 0, SEEK_SET) != 0 {
-        return false;
-    }
-    if !io::write_all(fd, image) {
-        return false;
-    }
-    libc::fsync(fd) == 0
+fn overwrite<F: Write + Seek + OpenFile>(file: &mut F, image: &[u8]) -> Result<()> {
+    file.seek(SeekFrom::Start(0))?;
+    file.write_all(image)?;
+    file.sync_all()
 }
 
 // Writes the image over its file. Where that fails, the copy stays: it alone is whole then.
-pub(crate) fn write_back(fd: i32, path: &[u8], copy_path: &[u8], image: &[u8]) -> bool {
+pub(crate) fn write_back<R: Files + Eprint>(
+    rt: &R,
+    file: &mut R::File,
+    path: &[u8],
+    copy_path: &[u8],
+    image: &[u8],
+) -> bool {
     if image.len() == 0 {
         return true;
     }
-    if !keep_copy(copy_path, image, true) {
+    if !keep_copy(rt, copy_path, image, true) {
         return false;
     }
-    if !overwrite(fd, image) {
-        os::fail(path);
+    if let Err(error) = overwrite(file, image) {
+        tell(rt, path, &error);
         return false;
     }
-    if os::unlink(copy_path) != 0 {
-        os::fail(copy_path);
+    if let Err(error) = remove(rt, copy_path) {
+        tell(rt, copy_path, &error);
     }
     true
 }
 
 // Makes the image file, where there is none: a whole copy gets its name. Where the name is not sure to last, the image is there all the same.
-pub(crate) fn make_image(path: &[u8], copy_path: &[u8], image: &[u8]) -> bool {
+pub(crate) fn make_image<R: Files + Eprint>(
+    rt: &R,
+    path: &[u8],
+    copy_path: &[u8],
+    image: &[u8],
+) -> bool {
     if image.len() == 0 {
         return true;
     }
-    if !keep_copy(copy_path, image, false) {
+    if !keep_copy(rt, copy_path, image, false) {
         return false;
     }
-    if os::rename(copy_path, path) != 0 {
-        os::fail(path);
-        os::unlink(copy_path);
+    if let Err(error) = rename(rt, copy_path, path) {
+        tell(rt, path, &error);
+        let _ = remove(rt, copy_path);
         return false;
     }
-    if !sync_folder(path) {
-        os::fail(path);
+    if let Err(error) = sync_folder(rt, path) {
+        tell(rt, path, &error);
         return false;
     }
     true

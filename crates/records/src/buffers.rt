@@ -68,10 +68,10 @@ pub fn fill_pattern(buf: &mut [u8]) {
     let mut i = 0;
     while i < buf.len() {
         buf[i] = x;
-        x = std::num::wrapping_add_u8(x, 7);
-        turn = std::num::wrapping_add_u8(turn, 1);
+        x = x.wrapping_add(7);
+        turn = turn.wrapping_add(1);
         if turn == 0 {
-            x = std::num::wrapping_add_u8(x, 1);
+            x = x.wrapping_add(1);
         }
         i += 1;
     }

@@ -38,7 +38,7 @@ pub fn field(line: &[u8], k: usize) -> &[u8] {
 pub fn which(line: &[u8], words: &[u8]) -> usize {
     let mut k = 0;
     while k < words.len() {
-        if check::same(field(line, 0), field(words, k)) {
+        if field(line, 0) == field(words, k) {
             return k;
         }
         k += 1;

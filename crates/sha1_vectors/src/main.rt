@@ -9,9 +9,9 @@
 //   finish                 prints the digest of what is taken in
 #![tactic(auto)]
 
-use libc::{STDIN_FILENO, STDOUT_FILENO};
 use records::buffers::{fill_pattern, part, put};
 use records::fields::{number, rest, which};
+use records::streams::{INPUT_ROOM, read_full, say, say_hex};
 use sha1_digest::Hasher;
 
 const MESSAGE_ROOM: usize = 1000000;
@@ -24,21 +24,11 @@ struct Vector {
     hasher: Hasher,
 }
 
-fn say(bytes: &[u8]) {
-    io::write_all(STDOUT_FILENO, bytes);
-}
-
-fn wide(b: u8) -> u64 {
-    b as u64
-}
-
-fn show(digest: [u8; 20]) {
-    let mut i = 0;
-    while i < 20 {
-        io::print_hex(STDOUT_FILENO, wide(digest[i]), 2);
-        i += 1;
+fn show(out: &impl Print, digest: [u8; 20]) {
+    for byte in &digest {
+        say_hex(out, *byte);
     }
-    say(b"\n");
+    say(out, b"\n");
 }
 
 fn absorb(message: &[u8], n: usize, length: usize, v: Vector) -> Vector {
@@ -48,7 +38,7 @@ fn absorb(message: &[u8], n: usize, length: usize, v: Vector) -> Vector {
     while 0 < left {
         let piece = part(message, taken, length);
         hasher = sha1_digest::absorb(hasher, piece);
-        taken = std::num::wrapping_add_usize(taken, piece.len());
+        taken = taken.wrapping_add(piece.len());
         left -= 1;
     }
     Vector {
@@ -66,9 +56,9 @@ fn start() -> Vector {
     }
 }
 
-fn finish(v: Vector) -> Vector {
+fn finish(out: &impl Print, v: Vector) -> Vector {
     let hasher = v.hasher;
-    show(sha1_digest::finish(hasher));
+    show(out, sha1_digest::finish(hasher));
     v
 }
 
@@ -87,30 +77,30 @@ fn pattern(message: &mut [u8], n: usize, v: Vector) -> Vector {
 }
 
 // What a line of input does.
-fn step(line: &[u8], message: &mut [u8], v: Vector) -> Vector {
+fn step(out: &impl Print, line: &[u8], message: &mut [u8], v: Vector) -> Vector {
     match which(line, b"case start pattern digest absorb finish") {
         0 => {
-            say(rest(line, 1));
-            say(b" ");
+            say(out, rest(line, 1));
+            say(out, b" ");
             v
         }
         1 => start(),
         2 => pattern(message, number(line, 1), v),
         3 => {
-            show(sha1_digest::digest(part(&*message, 0, v.len)));
+            show(out, sha1_digest::digest(part(&*message, 0, v.len)));
             v
         }
         4 => {
             let whole = part(&*message, 0, v.len);
             absorb(whole, number(line, 1), number(line, 2), v)
         }
-        5 => finish(v),
+        5 => finish(out, v),
         _ => lengthened(message, line, v),
     }
 }
 
 // The lines of the input, one after the other.
-fn run(text: &[u8], message: &mut [u8; MESSAGE_ROOM]) {
+fn run(out: &impl Print, text: &[u8], message: &mut [u8; MESSAGE_ROOM]) {
     let mut v = start();
     let mut from = 0;
     let mut i = 0;
@@ -118,15 +108,15 @@ fn run(text: &[u8], message: &mut [u8; MESSAGE_ROOM]) {
         if text[i] == b'\n' {
             let line = &text[from..i];
             from = i + 1;
-            v = step(line, message, v);
+            v = step(out, line, message, v);
         }
         i += 1;
     }
 }
 
-fn main() {
-    let mut text = io::large_buffer();
-    let n = io::read_full(STDIN_FILENO, &mut text);
+fn main(rt: HostRuntime) {
+    let mut text = [0u8; INPUT_ROOM];
+    let n = read_full(&mut rt.reader(), &mut text);
     let mut message = [0u8; MESSAGE_ROOM];
-    run(&text[..n], &mut message);
+    run(&rt, &text[..n], &mut message);
 }

@@ -18,9 +18,9 @@
 
 ghost use Rattle.std.specs.Prelude.{◌≤◌};
 
-use libc::{STDIN_FILENO, STDOUT_FILENO};
 use records::buffers::{fill_pattern, part};
 use records::fields::{number, rest, which};
+use records::streams::{INPUT_ROOM, read_full, say, say_hex, say_number};
 use state::limits::BLOCK_BYTES;
 
 const FILE_ROOM: usize = 65536;
@@ -34,23 +34,9 @@ struct Case {
     image: usize,
 }
 
-fn say(bytes: &[u8]) {
-    io::write_all(STDOUT_FILENO, bytes);
-}
-
-fn say_number(n: usize) {
-    io::print_decimal(STDOUT_FILENO, n as u64);
-}
-
-fn wide(b: u8) -> u64 {
-    b as u64
-}
-
-fn say_digest(d: [u8; 20]) {
-    let mut i = 0;
-    while i < 20 {
-        io::print_hex(STDOUT_FILENO, wide(d[i]), 2);
-        i += 1;
+fn say_digest(out: &impl Print, d: [u8; 20]) {
+    for byte in &d {
+        say_hex(out, *byte);
     }
 }
 
@@ -81,7 +67,7 @@ fn put_bytes(file: &mut [u8], at: usize, n: usize, first: u8, step: u8) -> usize
             return next;
         }
         file[next] = value;
-        value = std::num::wrapping_add_u8(value, step);
+        value = value.wrapping_add(step);
         next += 1;
         i += 1;
     }
@@ -147,66 +133,66 @@ fn put(file: &mut [u8], at: usize, line: &[u8]) -> usize {
     }
 }
 
-fn say_refused(k: usize) {
-    say(b"refused ");
-    say_number(k);
+fn say_refused(out: &impl Print, k: usize) {
+    say(out, b"refused ");
+    say_number(out, k);
 }
 
-fn load(file: &[u8], image: &mut [u8]) {
+fn load(out: &impl Print, file: &[u8], image: &mut [u8]) {
     fill_pattern(image);
     let before = sha1_digest::digest(&*image);
     let k = sparse::load(file, image);
     let after = sha1_digest::digest(&*image);
     if k == 0 {
-        say(b"loaded ");
-        say_digest(after);
-        say(b"\n");
+        say(out, b"loaded ");
+        say_digest(out, after);
+        say(out, b"\n");
         return;
     }
-    say_refused(k);
-    if check::same(&before, &after) {
-        say(b" kept\n");
+    say_refused(out, k);
+    if before == after {
+        say(out, b" kept\n");
     } else {
-        say(b" changed\n");
+        say(out, b" changed\n");
     }
 }
 
-fn check(file: &[u8], image: usize) {
+fn check(out: &impl Print, file: &[u8], image: usize) {
     let k = sparse::check_load(file, image);
     if k == 0 {
-        say(b"good\n");
+        say(out, b"good\n");
         return;
     }
-    say_refused(k);
-    say(b"\n");
+    say_refused(out, k);
+    say(out, b"\n");
 }
 
 // Each part of the file but the whole; a number is printed where it is another one than before.
-fn load_parts(file: &[u8], image: &mut [u8]) {
+fn load_parts(out: &impl Print, file: &[u8], image: &mut [u8]) {
     let mut last: usize = 0;
     let mut n = 0;
     while n < file.len() {
         let k = sparse::load(&file[..n], image);
         if k != last {
-            say_refused(k);
-            say(b" from ");
-            say_number(n);
-            say(b", ");
+            say_refused(out, k);
+            say(out, b" from ");
+            say_number(out, n);
+            say(out, b", ");
             last = k;
         }
         n += 1;
     }
 }
 
-fn every(file: &[u8], image: &mut [u8]) {
+fn every(out: &impl Print, file: &[u8], image: &mut [u8]) {
     fill_pattern(image);
     let before = sha1_digest::digest(&*image);
-    load_parts(file, image);
+    load_parts(out, file, image);
     let after = sha1_digest::digest(&*image);
-    if !check::same(&before, &after) {
-        say(b"changed, ");
+    if before != after {
+        say(out, b"changed, ");
     }
-    load(file, image);
+    load(out, file, image);
 }
 
 fn first_bytes(image: &mut [u8], n: usize) -> &mut [u8] {
@@ -217,12 +203,12 @@ fn first_bytes(image: &mut [u8], n: usize) -> &mut [u8] {
 }
 
 // What a line of input does; the answer is the lengths after it.
-fn step(line: &[u8], file: &mut [u8], image: &mut [u8], c: Case) -> Case {
+fn step(out: &impl Print, line: &[u8], file: &mut [u8], image: &mut [u8], c: Case) -> Case {
     let image_length = c.image;
     match which(line, b"case image load check every") {
         0 => {
-            say(rest(line, 1));
-            say(b": ");
+            say(out, rest(line, 1));
+            say(out, b": ");
             Case {
                 file: 0,
                 image: 3 * BLOCK_BYTES,
@@ -233,15 +219,23 @@ fn step(line: &[u8], file: &mut [u8], image: &mut [u8], c: Case) -> Case {
             image: number(line, 1),
         },
         2 => {
-            load(part(&*file, 0, c.file), first_bytes(image, image_length));
+            load(
+                out,
+                part(&*file, 0, c.file),
+                first_bytes(image, image_length),
+            );
             c
         }
         3 => {
-            check(part(&*file, 0, c.file), number(line, 1));
+            check(out, part(&*file, 0, c.file), number(line, 1));
             c
         }
         4 => {
-            every(part(&*file, 0, c.file), first_bytes(image, image_length));
+            every(
+                out,
+                part(&*file, 0, c.file),
+                first_bytes(image, image_length),
+            );
             c
         }
         _ => Case {
@@ -252,23 +246,23 @@ fn step(line: &[u8], file: &mut [u8], image: &mut [u8], c: Case) -> Case {
 }
 
 // The lines of the input, one after the other.
-fn run(text: &[u8], file: &mut [u8; FILE_ROOM], image: &mut [u8; IMAGE_ROOM]) {
+fn run(out: &impl Print, text: &[u8], file: &mut [u8; FILE_ROOM], image: &mut [u8; IMAGE_ROOM]) {
     let mut c = Case { file: 0, image: 0 };
     let mut from = 0;
     let mut i = 0;
     while i < text.len() {
         if text[i] == b'\n' {
-            c = step(&text[from..i], file, image, c);
+            c = step(out, &text[from..i], file, image, c);
             from = i + 1;
         }
         i += 1;
     }
 }
 
-fn main() {
-    let mut text = io::large_buffer();
-    let n = io::read_full(STDIN_FILENO, &mut text);
+fn main(rt: HostRuntime) {
+    let mut text = [0u8; INPUT_ROOM];
+    let n = read_full(&mut rt.reader(), &mut text);
     let mut file = [0u8; FILE_ROOM];
     let mut image = [0u8; IMAGE_ROOM];
-    run(&text[..n], &mut file, &mut image);
+    run(&rt, &text[..n], &mut file, &mut image);
 }

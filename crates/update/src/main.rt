@@ -1,8 +1,9 @@
 // Applies the update in the current folder.
 #![tactic(auto)]
 
-fn main() {
+fn main(rt: HostRuntime) {
     package::update(
+        &rt,
         b"system.transfer.list",
         b"system.img",
         b"system.new.dat",

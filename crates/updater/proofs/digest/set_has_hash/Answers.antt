@@ -50,7 +50,7 @@ returns-in-Done c =
     c.same_hash.ensures ∙ rw found
 
 pub slice_bounds-absorb-end : goal.slice_bounds-absorb-end
-slice_bounds-absorb-end c = omega (arith, within c)
+slice_bounds-absorb-end c = omega (arith, within (goal.at.slice_bounds-absorb-end c).In-Block)
 
 pub loop-found-smaller : goal.loop-found-smaller
 loop-found-smaller c = omega (arith, ap length (met (goal.at.loop-found-smaller c).In-Block))

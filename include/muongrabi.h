@@ -4,8 +4,8 @@
  *
  * For C99 and C++98, and later ones. Link with libmuongrabi.a: `pkg-config --cflags --libs muongrabi` after `./install PREFIX`, or the archive as it
  * is built. `./build library` makes the one for x86-64 Linux, target/staticlib/libmuongrabi.a: for this machine the Rattle toolchain stands behind the
- * code that it compiles. `./build aarch64` makes the one for AArch64 Linux and Android, target/staticlib/aarch64/libmuongrabi.a: the same proved module
- * and the same exports, compiled for a machine that the toolchain does not promise; there the code is tested, by tests/arm64. An archive wants memcpy,
+ * code that it compiles. `./build aarch64` makes the one for AArch64 Linux and Android, target/staticlib/aarch64/libmuongrabi.a: the same proved crates
+ * and the same exports, compiled for Android, which the toolchain does not promise; there the code is tested, by tests/arm64. An archive wants memcpy,
  * memmove and memset of the C library, at most 52 KiB of stack, a call 20 KiB, and nothing else. Nothing is allocated, no file is opened and no state
  * is kept inside: everything a function works on is lent by the caller, and what must be remembered between calls is the caller's state.
  *

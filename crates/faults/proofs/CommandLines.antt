@@ -27,16 +27,13 @@ use Rattle.faults.proofs.LanguageLaws.{Reads, Starting, Starts, fault_here_lem, 
 use Rattle.faults.proofs.Seen.{seen, is_lf}
 use Rattle.faults.proofs.Numbers.{clash}
 use Rattle.faults.proofs.Rests.{GoodWord, rest-found}
+use Rattle.faults.proofs.Spaces.{byte-starts, Spaced, rest_spaced}
 
 -- ---- a word, and what follows it
 
 no_lf : List ℕ → Bool
 no_lf [] = true
 no_lf (c ∷ word) = both (no (is_lf c)) (no_lf word)
-
--- every text starts with a space
-abbrev Spaced : Language → Type 0
-Spaced K = (t : List ℕ) → K t → Starts t space
 
 bytes-alive : (word : List ℕ) (K : Language) → GoesOn K [] → GoesOn (Bytes word K) []
 unfolding Bytes
@@ -107,24 +104,9 @@ spelt word.Unknown g = absurd g
 abbrev Kind : Word → Language
 Kind w = Bytes (spelling w) (Rest w)
 
-byte-starts : (m : ℕ) (K : Language) (t : List ℕ) → Byte m K t → Starts t m
-unfolding Byte
-byte-starts m K [] d = d
-byte-starts m K (b ∷ t) d = d.0
-
 starts-byte : (t : List ℕ) {m : ℕ} → Starts t m → get_or t 0 0 ≡ m
 starts-byte [] h = absurd h
 starts-byte (b ∷ t) h = h
-
-rest_spaced : (w : Word) → Spaced (Rest w)
-unfolding Rest LastSet
-rest_spaced (word.Ranges w) = byte-starts space _
-rest_spaced (word.Hash hash.Move) = byte-starts space _
-rest_spaced (word.Hash hash.Stash) = byte-starts space _
-rest_spaced (word.Hash hash.Free) = byte-starts space _
-rest_spaced word.Bsdiff = byte-starts space _
-rest_spaced word.Imgdiff = λ t d. absurd d
-rest_spaced word.Unknown = λ t d. absurd d
 
 none_after : (word : List ℕ) (t : List ℕ) → Bytes word (λ s. ⊥) t → ⊥
 unfolding Bytes Byte

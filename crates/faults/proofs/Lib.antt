@@ -8,6 +8,7 @@ pub mod Hashes
 pub mod Fields
 pub mod Parts
 pub mod Rests
+pub mod Spaces
 pub mod CommandLines
 pub mod Faults
 pub mod Ends

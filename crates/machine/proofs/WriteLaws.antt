@@ -174,13 +174,13 @@ module _ (k : Machine) (halts : k.Config → Bool) (w : Spots k.Config) (Inv : k
 
   -- ---- any number of stops and cuts
 
-  pub stands-keeps : {xs ys : List ℕ} {m p : k.Config} → Inv m → Stands k halts w xs m ys p → Inv p
+  pub stands-keeps : {xs : List ℕ} {m : k.Config} {ys : List ℕ} {p : k.Config} → Inv m → Stands k halts w xs m ys p → Inv p
   stands-keeps v saved = v
   stands-keeps v (stop {ys} {p} s h) = call-keeps k halts Inv g ys p (stands-keeps v s)
   stands-keeps v (cut {ys} {p} {q} s a) = r.keeps _ p q a (stands-keeps v s)
 
   -- the saved state, with the new data from there on, ends as the uncut run does
-  pub stands-ends : {xs ys : List ℕ} {m p : k.Config} → Inv m → Stands k halts w xs m ys p → feeds k ys p ≡ feeds k xs m
+  pub stands-ends : {xs : List ℕ} {m : k.Config} {ys : List ℕ} {p : k.Config} → Inv m → Stands k halts w xs m ys p → feeds k ys p ≡ feeds k xs m
   stands-ends v saved = refl
   stands-ends v (stop {ys} {p} s h) =
       subst (λ (l : List ℕ). feeds k l (call_ends k halts ys p).config ≡ feeds k ys p) (append-nil _)

@@ -1,5 +1,5 @@
 // The updater and the reader of sparse images for C and Rust: numbers, slices and arrays, which cross alike on every 64-bit little-endian
-// machine. A state crosses as its saved form, and is changed where that lies.
+// machine. A state crosses as its saved form, and is changed where that lies. `muongrabi_c` exports each function here under its name.
 #![tactic(auto)]
 
 ghost use Rattle.std.specs.Prelude.{◌≡◌, length};
@@ -32,13 +32,13 @@ const REFUSED: u64 = 2;
 const STOP: u64 = 3;
 
 // The numbers of an opening's answer: number, line and byte of the refusal.
-const OPENING_NUMBERS: usize = 3;
+pub const OPENING_NUMBERS: usize = 3;
 
 // The numbers of a call's answer: outcome; number, line and byte of the refusal; bytes taken.
-const ANSWER_NUMBERS: usize = 5;
+pub const ANSWER_NUMBERS: usize = 5;
 
 // The numbers of a state besides its tables, in the order of its saved form.
-const STATE_NUMBERS: usize = 16;
+pub const STATE_NUMBERS: usize = 16;
 
 fn to_answer(outcome: Outcome, taken: usize) -> [u64; ANSWER_NUMBERS]
     ensures { result ≡ answer_of outcome taken }
@@ -80,24 +80,21 @@ fn save_state(to: &mut [u8; SAVED_BYTES], state: State)
 }
 
 // The ABI's number. The name has it too, so that what was built for another one does not link.
-#[unsafe(no_mangle)]
-pub extern "C" fn muongrabi_abi_6() -> usize
+pub fn muongrabi_abi_6() -> usize
     ensures { result ≡ abi }
 {
     ABI
 }
 
 // The SHA-1 digest of the bytes.
-#[unsafe(no_mangle)]
-pub extern "C" fn muongrabi_digest(bytes: &[u8], out: &mut [u8; 20])
+pub fn muongrabi_digest(bytes: &[u8], out: &mut [u8; 20])
     ensures { out.new ≡ sha1 bytes.now }
 {
     *out = sha1_digest::digest(bytes);
 }
 
 // Opens a list over areas and patch data of the given lengths in bytes. The state is written whole, whatever it held.
-#[unsafe(no_mangle)]
-pub extern "C" fn muongrabi_open(
+pub fn muongrabi_open(
     list: &[u8],
     image: usize,
     stash: usize,
@@ -121,8 +118,7 @@ pub extern "C" fn muongrabi_open(
 
 // One call with one piece of new data, from the state whose saved form is lent; after it these bytes are the saved form of the state that it
 // left. Where they are no state's saved form: 20, and nothing is changed.
-#[unsafe(no_mangle)]
-pub extern "C" fn muongrabi_call(
+pub fn muongrabi_call(
     list: &[u8],
     image: &mut [u8],
     stash: &mut [u8],
@@ -168,8 +164,7 @@ pub extern "C" fn muongrabi_call(
 
 // Opens the list and makes the calls: a piece of each given length, cut short where the bytes end, and then one with what is left; after a stop
 // it calls on. The state is that after the last call, whatever it held.
-#[unsafe(no_mangle)]
-pub extern "C" fn muongrabi_run(
+pub fn muongrabi_run(
     list: &[u8],
     image: &mut [u8],
     stash: &mut [u8],
@@ -191,8 +186,7 @@ pub extern "C" fn muongrabi_run(
 }
 
 // The saved form of the state with these tables and numbers.
-#[unsafe(no_mangle)]
-pub extern "C" fn muongrabi_save(
+pub fn muongrabi_save(
     hashes: &[u8; TABLE_BYTES],
     sizes: &[usize; MOST_STASHES],
     numbers: &[usize; STATE_NUMBERS],
@@ -228,8 +222,7 @@ pub extern "C" fn muongrabi_save(
 }
 
 // The tables and numbers of the state whose saved form the bytes are, with number 0; or 20, and nothing is changed.
-#[unsafe(no_mangle)]
-pub extern "C" fn muongrabi_restore(
+pub fn muongrabi_restore(
     bytes: &[u8],
     hashes: &mut [u8; TABLE_BYTES],
     sizes: &mut [usize; MOST_STASHES],
@@ -266,9 +259,9 @@ pub extern "C" fn muongrabi_restore(
 }
 
 // Reads a sparse file over an image, and gives the number of the refusal, 0 for none.
-#[unsafe(no_mangle)]
-pub extern "C" fn muongrabi_sparse_load(file: &[u8], image: &mut [u8]) -> u32
-    ensures value { result ≡ load_refusal file.now (length image.old) }
+#[tactic(auto, using(sparse::proofs::NumberLaws::load_most))]
+pub fn muongrabi_sparse_load(file: &[u8], image: &mut [u8]) -> u32
+    ensures number { result ≡ load_refusal file.now (length image.old) }
     ensures image_after { image.new ≡ loaded_image file.now image.old }
 {
     sparse::load(file, image) as u32

@@ -13,6 +13,7 @@ pub(crate) const ORIGIN: usize = FARTHEST;
 const LAST_POSITION: usize = ORIGIN + FARTHEST;
 
 // Whether the position stays within its bounds.
+#[tactic(auto, unfolding(crate::specs::Position::can_move))]
 pub(crate) fn can_move(position: usize, n: usize) -> bool
     requires { position ≤ last_position }
     ensures { result ≡ can_move position n }
@@ -23,6 +24,7 @@ pub(crate) fn can_move(position: usize, n: usize) -> bool
     n <= LAST_POSITION - position
 }
 
+#[tactic(auto, unfolding(crate::specs::Position::can_move, crate::specs::Position::moved))]
 pub(crate) fn move_by(position: usize, n: usize) -> usize
     requires { (position ≤ last_position) × (can_move position n ≡ true) }
     ensures { result ≡ moved position n }

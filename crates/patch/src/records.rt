@@ -29,6 +29,7 @@ pub enum RecordRead {
 }
 
 // The record at a byte of the patch, with the position before it.
+#[tactic(auto, unfolding(crate::specs::Record::record_at))]
 pub(crate) fn read_record(patch: &[u8], at: usize, position: usize) -> RecordRead
     requires { (at ≤ length patch.now) × (position ≤ last_position) }
     ensures { result ≡ record_at patch.now at position }

@@ -9,8 +9,8 @@ use copy::copy_in;
 
 // What a record makes, over a part that has room for just that.
 fn write_record(part: &mut [u8], patch: &[u8], source: &[u8], found: Record)
-    requires adds_le_extras { (found.adds ≤ found.extras) × (found.extras ≤ found.end) × (found.end ≤ length patch.now) }
-    requires part_len { length part.old ≡ record_size found }
+    requires inside { (found.adds ≤ found.extras) × (found.extras ≤ found.end) × (found.end ≤ length patch.now) }
+    requires room { length part.old ≡ record_size found }
     ensures { part.new ≡ record_result patch.now source.now found }
 {
     let adds = found.adds;

@@ -22,6 +22,7 @@ use text::line::{line_at, line_number};
 use transfer_list::header::{Header, HeaderRead, check_start, read_header};
 use transfer_list::terms_of;
 
+#[tactic(auto, unfolding(crate::specs::Possible::same_lengths))]
 fn same_lengths(a: Lengths, b: Lengths) -> bool
     ensures { result ≡ same_lengths a b }
 {
@@ -54,6 +55,7 @@ fn before(at: usize) -> usize
 }
 
 // The position is at the start of a command line, and the line number is its own.
+#[tactic(auto, unfolding(crate::specs::Possible::at_line))]
 fn is_at_line(list: &[u8], h: Header, line: usize, at: usize) -> bool
     ensures { result ≡ at_line list.now h line at }
 {
@@ -70,6 +72,7 @@ fn is_at_line(list: &[u8], h: Header, line: usize, at: usize) -> bool
     line == line_number(list, at)
 }
 
+#[tactic(auto, unfolding(crate::specs::Possible::can_hold))]
 fn can_hold<'a>(
     h: Header,
     hashes: &'a [u8; TABLE_BYTES],
@@ -91,6 +94,7 @@ fn can_hold<'a>(
 }
 
 // The command takes new data, is good, and has more bytes than n.
+#[tactic(auto, unfolding(crate::specs::Possible::has_more))]
 fn has_more(terms: Terms, n: usize, command: Command) -> bool
     ensures { result ≡ has_more terms n command }
 {
@@ -105,6 +109,7 @@ fn has_more(terms: Terms, n: usize, command: Command) -> bool
     }
 }
 
+#[tactic(auto, unfolding(crate::specs::Possible::can_be_into))]
 fn can_be_into(list: &[u8], terms: Terms, at: usize, into: usize) -> bool
     ensures { result ≡ can_be_into least_blocks list.now terms at into }
 {
@@ -117,6 +122,7 @@ fn can_be_into(list: &[u8], terms: Terms, at: usize, into: usize) -> bool
 }
 
 // The marks are room to check the line in; a state without a ready mark needs none.
+#[tactic(auto, unfolding(crate::specs::Possible::can_be_ready, rules::specs::Rules::checked_of))]
 fn can_be_ready<'a>(
     list: &[u8],
     terms: Terms,
@@ -142,6 +148,7 @@ fn can_be_ready<'a>(
 }
 
 // A `free` of a held stash, with stretch k to be moved. What is held is below the bound of sums, so that none is cut.
+#[tactic(auto, unfolding(crate::specs::Possible::frees_on, crate::specs::Possible::found_stretch))]
 fn frees_on<'a>(
     hashes: &'a [u8; TABLE_BYTES],
     sizes: &'a [usize; MOST_STASHES],
@@ -182,6 +189,7 @@ fn frees_on<'a>(
     }
 }
 
+#[tactic(auto, unfolding(crate::specs::Possible::can_be_stretched))]
 fn can_be_stretched<'a>(
     list: &[u8],
     at: usize,
@@ -203,6 +211,7 @@ fn can_be_stretched<'a>(
 }
 
 // The state is one that this list can have with areas and patch data of these lengths.
+#[tactic(auto, unfolding(crate::specs::Possible::is_possible, crate::specs::Possible::possible_under))]
 pub fn is_possible<'a>(
     list: &[u8],
     lengths: Lengths,
@@ -257,6 +266,7 @@ pub fn is_possible<'a>(
 }
 
 // What the lines are checked against.
+#[tactic(auto, unfolding(crate::specs::Possible::terms_for, crate::specs::Possible::terms_under))]
 pub fn terms_for(list: &[u8], lengths: Lengths) -> Terms
     ensures { result ≡ terms_for list.now lengths }
 {

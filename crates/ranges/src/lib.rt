@@ -40,6 +40,7 @@ pub enum Ranges {
 }
 
 // A comma and a number.
+#[tactic(auto, unfolding(crate::specs::Ranges::item_at))]
 fn read_item(s: &[u8], at: usize, need: Need) -> Number
     ensures { result ≡ item_at need s.now at }
 {

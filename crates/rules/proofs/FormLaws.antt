@@ -18,7 +18,7 @@ use Rattle.command.specs.declared.faults.Fault.{Fault}
 use Rattle.command.specs.declared.faults.Fault.TheVariants as fault
 use Rattle.command.specs.Faults.{fault_of}
 use Rattle.command.specs.Patching.{patching_of}
-use Rattle.rules.specs.Move.{sourced_rows, sourced_refusal, move_refusal, target_oriffers, over_result, patch_past, patch_refusal, bsdiff_refusal}
+use Rattle.rules.specs.Move.{sourced_rows, sourced_refusal, move_refusal, target_differs, over_result, patch_past, patch_refusal, bsdiff_refusal}
 use Rattle.rules.specs.Rules.{target_rows, stash_rows, stash_refusal, free_rows, free_refusal, refusal_for}
 use Rattle.rules.specs.declared.Terms.{Terms}
 
@@ -51,7 +51,7 @@ module _ (l : List ℕ) (terms : Terms) (held : List Stash) where
   form_or_none hash (command.Zero set) = inr (record { none = refl; number = not_given has_byte (target_rows terms set) none refl refl })
   form_or_none hash (command.Erase set) = inr (record { none = refl; number = not_given has_byte (target_rows terms set) none refl refl })
   form_or_none hash (command.New set) = inr (record { none = refl; number = not_given has_byte (target_rows terms set) none refl refl })
-  form_or_none hash (command.Move target n source) = inr (record { none = refl; number = sourced-none false (target_oriffers target n) target n source })
+  form_or_none hash (command.Move target n source) = inr (record { none = refl; number = sourced-none false (target_differs target n) target n source })
   form_or_none hash (command.Bsdiff target n source) = inr (record { none = refl; number = bsdiff_none target n source })
   form_or_none hash (command.Stash set) = inr (record { none = refl; number = not_given has_byte (stash_rows terms held hash set) none refl refl })
   form_or_none hash command.Free = inr (record { none = refl; number = not_given has_byte (free_rows held hash) none refl refl })

@@ -59,6 +59,7 @@ fn is_too_much(terms: Terms, sizes: &[usize; MOST_STASHES], count: usize, set: R
     (terms.blocks as usize) < bounded_sum(blocks_before(sizes, count, MOST_STASHES), set.blocks)
 }
 
+#[tactic(auto, unfolding(crate::specs::Rules::stash_refusal))]
 fn check_stash<'a>(
     terms: Terms,
     hashes: &'a [u8; TABLE_BYTES],

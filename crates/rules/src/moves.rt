@@ -199,6 +199,7 @@ fn source_differs(n: usize, source: Source, sums: Sums) -> bool
 
 // 8 to 12 of a command with a target, N and a source, 0 for none. What is asked of the target's size differs by the command: `over` is its
 // 9, `differs` its 11.
+#[tactic(auto, unfolding(crate::specs::Move::sourced_refusal))]
 fn check_sourced<'a>(
     l: &[u8],
     terms: Terms,

@@ -24,7 +24,7 @@ use Rattle.saved.specs.Saved.{hashes_record, sizes_record, progress_record, refu
 use Rattle.saved.specs.Restored.{has_mark, is_saved, numbers_at, state_in, no_state, restored_as, refused, restored_of}
 use Rattle.saved.specs.Claim.{SavedClaim}
 use Rattle.saved.proofs.WordLaws.{length-words, numbers-words, words-numbers, below_part}
-use Rattle.saved.proofs.ReadLaws.{saved-length}
+use Rattle.saved.proofs.ReadLaws.{saved_length}
 
 -- ---- what is saved is read back
 
@@ -208,7 +208,7 @@ five_pieces b i j k l n p q r s t ep eq er es et h =
 
 module _ (b : List ℕ) (h : AllBelow 256 b) (is : is_saved b ≡ true) where
   is_long : length b ≡ saved_bytes
-  is_long = saved-length b is
+  is_long = saved_length b is
 
   -- the marks, one by one
   marks : (has_mark b hashes_at letter_h ≡ true) × (has_mark b sizes_at letter_b ≡ true) × (has_mark b progress_at letter_p ≡ true)

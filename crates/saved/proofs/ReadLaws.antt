@@ -43,9 +43,9 @@ front-all area bytes h =
     front_fits area bytes (omega arith) ∙ rw d (append-nil bytes)
 
 -- bytes that are a saved form have its length
-pub saved-length : (b : List ℕ) → is_saved b ≡ true → length b ≡ saved_bytes
+pub saved_length : (b : List ℕ) → is_saved b ≡ true → length b ≡ saved_bytes
 unfolding is_saved
-saved-length b h = eqb-true _ _ (both_true _ _ h).0
+saved_length b h = eqb-true _ _ (both_true _ _ h).0
 
 -- ---- over tables that are lent
 

@@ -121,10 +121,13 @@ numbers-words pre [] rest at (suc n) l m h = absurd (omega arith)
 numbers-words pre (x ∷ xs) rest at zero l m h = absurd (omega arith)
 numbers-words pre (x ∷ xs) rest at (suc n) l m h =
     let b = length-bytes word_bytes x in
-    let e : pre ++ ((bytes_of word_bytes x ++ words_of xs) ++ rest) ≡ pre ++ (bytes_of word_bytes x ++ (words_of xs ++ rest)) = simp append_assoc in
-    let f : pre ++ (bytes_of word_bytes x ++ (words_of xs ++ rest)) ≡ (pre ++ bytes_of word_bytes x) ++ (words_of xs ++ rest) = simp append_assoc in
+    let all = pre ++ (words_of (x ∷ xs) ++ rest) in
+    let e : all ≡ pre ++ (bytes_of word_bytes x ++ (words_of xs ++ rest)) = simp append_assoc in
+    let f : all ≡ (pre ++ bytes_of word_bytes x) ++ (words_of xs ++ rest) = simp append_assoc in
     let t = numbers-words (pre ++ bytes_of word_bytes x) xs rest (at + word_bytes) n (simp length-append (omega arith)) (omega arith) h.1 in
-    rw (e, eight_word pre (words_of xs ++ rest) x at l h.0, f, t)
+    ap (λ (y : ℕ). y ∷ numbers_at all (at + word_bytes) n)
+    (ap (λ (l : List ℕ). eight_at l at) e ∙ eight_word pre (words_of xs ++ rest) x at l h.0)
+    ∙ ap (λ (ys : List ℕ). x ∷ ys) (ap (λ (l : List ℕ). numbers_at l (at + word_bytes) n) f ∙ t)
 
 -- what is read was written
 pub record Read (b : List ℕ) (at n : ℕ) : Type 0 where

@@ -114,6 +114,7 @@ fn no_progress() -> Progress
 }
 
 // The state whose saved form the bytes are, its tables over those that are lent; or 20, and these stay.
+#[tactic(auto, using(crate::proofs::ReadLaws::saved_length), unfolding(crate::specs::Restored::restored_over, crate::specs::Restored::state_in))]
 pub fn restore_in_place(
     bytes: &[u8],
     hashes: &mut [u8; TABLE_BYTES],
@@ -135,6 +136,7 @@ pub fn restore_in_place(
 }
 
 // The state whose saved form the bytes are, or 20.
+#[tactic(auto, unfolding(crate::specs::Restored::restored_of, crate::specs::Restored::restored_over))]
 pub fn restore(bytes: &[u8]) -> Restored
     ensures { result ≡ restored_of bytes.now }
 {

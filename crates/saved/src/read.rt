@@ -13,6 +13,7 @@ use little_endian::read_u64;
 use state::limits::{MOST_STASHES, TABLE_BYTES};
 use state::{Lengths, Progress, Refusal};
 
+#[tactic(auto, unfolding(crate::specs::Restored::has_mark))]
 fn has_mark(bytes: &[u8], at: usize, letter: u8) -> bool
     requires { at + mark_bytes ≤ length bytes.now }
     ensures { result ≡ has_mark bytes.now at letter }
@@ -23,6 +24,7 @@ fn has_mark(bytes: &[u8], at: usize, letter: u8) -> bool
     bytes[at + 1] == letter
 }
 
+#[tactic(auto, unfolding(crate::specs::Restored::is_saved))]
 pub(crate) fn is_saved(bytes: &[u8]) -> bool
     ensures { result ≡ is_saved bytes.now }
 {

@@ -186,7 +186,9 @@ module _ (s piece : List ℕ) where
     -- the call stopped
     module _ (e : called.outcome ≡ outcome.Stop) where
       pub calling_burns : stops_left s (config_of areas called.state) < stops_left s p
-      calling_burns = rw next-config (stop_burns s (drop at piece ++ []) p v.sized (sym next-says ∙ e))
+      calling_burns =
+          subst (λ (m : Config). stops_left s m < stops_left s p) (sym next-config)
+          (stop_burns s (drop at piece ++ []) p v.sized (sym next-says ∙ e))
 
       next-rest : next.rest ≡ drop (at + called.taken) piece
       next-rest =

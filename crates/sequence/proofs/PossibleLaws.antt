@@ -19,7 +19,7 @@ use Rattle.ranges.specs.Ranges.{least_blocks}
 use Rattle.ranges.specs.declared.RangeSet.{RangeSet}
 use Rattle.state.specs.Limits.{block_bytes, most_stashes}
 use Rattle.state.specs.Refusals.{none}
-use Rattle.state.specs.Stashes.{Stash, table_of, held, blocks_held}
+use Rattle.state.specs.Stashes.{table_of, held, blocks_held}
 use Rattle.state.specs.States.{is_ready}
 use Rattle.state.specs.declared.Lengths.{Lengths}
 use Rattle.state.specs.declared.State.{State}

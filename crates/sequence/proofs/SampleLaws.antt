@@ -6,7 +6,7 @@ use mathlib.Core.List.{List, [], ◌∷◌, ◌++◌, append_assoc, append-nil}
 use Prim.Native.Nat.{ℕ}
 use native.Mathlib.Omega.{arith}
 use lib.ListN.{length, drop, take, length-drop, length-take, take-append-drop}
-use Rattle.text.specs.Number.{meets, reaches, can_meet, end_of as endOfNumber, digits, number_from, number_for}
+use Rattle.text.specs.Number.{meets, reaches, can_meet, end_of as end_of_number, digits, number_from, number_for}
 use Rattle.text.specs.Expected.{expected_at, on_expected}
 use Rattle.text.specs.Word.{is_first_word}
 use Rattle.ranges.specs.Ranges.{item_at, pair_at, pairs_at, set_at, size_of, end_of, summary, ranges_at, span, blocks_of}
@@ -68,7 +68,7 @@ unfolding hex_of
 result_bsdiff h t = hash-written (text "bsdiff 0 0 " ++ hex h ++ text " ") t.bytes (text " 2,1,3 1 2,0,1\n") 52 t.whole t.each refl
 
 hashes_bsdiff : (h t : Digest) → (patching_of (patch_line h t)).hashes ≡ 10
-unfolding meets can_meet endOfNumber digits number_from number_for expected_at hex_of number_field patching_from patching_of
+unfolding meets can_meet end_of_number digits number_from number_for expected_at hex_of number_field patching_from patching_of
 hashes_bsdiff h t = refl
 
 wanted_bsdiff : (h t : Digest) → result_hash (patch_line h t) (patching_of (patch_line h t)).hashes ≡ t.bytes
@@ -123,7 +123,7 @@ module _ (A B C D E F G H T1 T2 T3 W1 W2 W3 : Block) where
       (parted A.bytes B.bytes P.bytes D.bytes E.bytes F.bytes (drop block_bytes new) (drop 904 G.bytes) H.bytes))
 
   table : Table A B C D E F G H T1 T2 T3 W1 W2 W3
-  unfolding meets reaches can_meet endOfNumber digits number_from number_for expected_at is_first_word item_at pair_at pairs_at set_at size_of end_of summary ranges_at span blocks_of pairs_of
+  unfolding meets reaches can_meet end_of_number digits number_from number_for expected_at is_first_word item_at pair_at pairs_at set_at size_of end_of summary ranges_at span blocks_of pairs_of
       ranges_of blocks_at AllBelow hex_of word_in number_field hash_field set_field last_set range_line with_places after_blocks source_from source_field
       length_from target_from free_from hashed_line digest_from patched_line length_line bsdiff_line command_of part_end places_from part_at parts_in parts_at parts_field uses_in uses_at find_in is_held size_at blocks_held without source_past source_over uses_by some_missing stash_blocks
       some_differ places_named source_differs places_of places_by is_in some_misplaced sourced_refusal move_refusal free_refusal refusal_for refusal_of stash_bytes

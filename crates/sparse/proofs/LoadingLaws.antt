@@ -1,7 +1,7 @@
 -- Laws of `specs/Loading.antt`.
 -- Assumes nothing.
-use mathlib.Core.Path.{◌≡◌, refl, sym, ap, ◌∙◌}
-use mathlib.Core.List.{List, [], ◌∷◌, ◌++◌}
+use mathlib.Core.Path.{◌≡◌, refl, ap, ◌∙◌}
+use mathlib.Core.List.{List, [], ◌++◌}
 use Prim.Native.Nat.{ℕ, zero, suc, ◌+◌, ◌-◌, ◌*◌, ◌/◌, ◌%◌, ◌≤◌, ◌<◌}
 use native.Mathlib.Omega.{arith}
 use lib.ListN.{length, get_or, set, take, drop, length-append, length-take, length-drop, get_or-append}
@@ -17,7 +17,6 @@ use Rattle.sparse_file.specs.Header.{total_blocks, header_refusal, image_rows, i
 use Rattle.sparse_file.specs.Chunk.{fill_bytes, body_bytes}
 use Rattle.sparse_file.specs.Chunks.{Chunks, follow, chunks_of}
 use Rattle.sparse.specs.Loading.{or_else, load_refusal, repeated, body_of, body_over, chunk_over, chunks_over, loaded_image}
-use Rattle.sparse_file.specs.declared.chunk.Kind.{Kind}
 use Rattle.sparse_file.specs.declared.chunk.Kind.TheVariants.{Raw, Fill, DontCare}
 use Rattle.sparse_file.specs.declared.chunk.Chunk.{Chunk}
 
@@ -144,6 +143,6 @@ module _ (file image : List ℕ) where
   unfolding loaded_image
   image_loaded e = rw (eq-eqb (load_refusal file (length image)) none e)
 
-  pub image-kept : (load_refusal file (length image) ≡ none → ⊥) → image ≡ loaded_image file image
+  pub image_kept : (load_refusal file (length image) ≡ none → ⊥) → image ≡ loaded_image file image
   unfolding loaded_image
-  image-kept n = rw (ne_eqb (load_refusal file (length image)) none n)
+  image_kept n = rw (ne_eqb (load_refusal file (length image)) none n)

@@ -41,8 +41,8 @@ fn fill_in(part: &mut [u8], bytes: &[u8])
 }
 
 fn write_chunk(file: &[u8], image: &mut [u8], chunk: Chunk)
-    requires blocks_value { (chunk.body + body_bytes chunk.kind chunk.blocks ≡ chunk.next) × (chunk.next ≤ length file.now) }
-    requires blocks_in_bounds { block_bytes * (chunk.first + chunk.blocks) ≤ length image.old }
+    requires body_in_file { (chunk.body + body_bytes chunk.kind chunk.blocks ≡ chunk.next) × (chunk.next ≤ length file.now) }
+    requires blocks_in_image { block_bytes * (chunk.first + chunk.blocks) ≤ length image.old }
     ensures { image.new ≡ chunk_over file.now chunk image.old }
 {
     let kind = chunk.kind;

@@ -1,13 +1,13 @@
 -- Laws of `specs/Chunk.antt`: `chunk_at` by its cases, and what a chunk that was read keeps to.
 -- Assumes nothing.
-use mathlib.Core.Path.{◌≡◌, refl, sym, ap, subst, ◌∙◌}
+use mathlib.Core.Path.{◌≡◌, refl, subst}
 use mathlib.Core.Bool.{Bool, true, false}
 use mathlib.Core.List.{List}
 use Prim.Native.Nat.{ℕ, zero, suc, ◌+◌, ◌-◌, ◌*◌, ◌≤◌, ◌<◌}
 use native.Mathlib.Omega.{arith}
 use lib.ListN.{length}
 use lib.Dec.{leb, ltb, eqb}
-use borrow.Author.Tests.{lt-ltb, le-ltb, le-leb, lt-leb, eq-eqb, ne_eqb, ltb-false, leb-true, eqb-true}
+use borrow.Author.Tests.{lt-ltb, le-leb, lt-leb, eq-eqb, ne_eqb, ltb-false, leb-true, eqb-true}
 use Rattle.text.specs.Choice.{both}
 use Rattle.text.specs.Rows.{first_of}
 use Rattle.text.proofs.ChoiceLaws.{both_true, no_false}
@@ -19,7 +19,6 @@ use Rattle.sparse_file.specs.Chunk.{type_at, blocks_at, bytes_at, checksum_type,
 use Rattle.sparse_file.specs.declared.chunk.Kind.{Kind}
 use Rattle.sparse_file.specs.declared.chunk.Kind.TheVariants.{Raw, Fill, DontCare}
 use Rattle.sparse_file.specs.declared.chunk.Chunk.{Chunk}
-use Rattle.sparse_file.specs.declared.chunk.ChunkRead.{ChunkRead}
 use Rattle.sparse_file.specs.declared.chunk.ChunkRead.TheVariants.{Good, Bad}
 
 -- ---- by cases, in the order of the rows
@@ -84,11 +83,11 @@ module _ (room type blocks bytes : ℕ) where
 
 -- ---- a chunk that was read
 
-pub body_bytes-most : (kind : Kind) (blocks : ℕ) → body_bytes kind blocks ≤ fill_bytes + block_bytes * blocks
+pub body_bytes_most : (kind : Kind) (blocks : ℕ) → body_bytes kind blocks ≤ fill_bytes + block_bytes * blocks
 unfolding body_bytes
-body_bytes-most Raw blocks = omega arith
-body_bytes-most Fill blocks = omega arith
-body_bytes-most DontCare blocks = omega arith
+body_bytes_most Raw blocks = omega arith
+body_bytes_most Fill blocks = omega arith
+body_bytes_most DontCare blocks = omega arith
 
 -- its body lies in the file, and its blocks in the image
 pub record Within (file : List ℕ) (before total : ℕ) (c : Chunk) : Type 0 where

@@ -1,6 +1,6 @@
 -- Laws of `specs/Chunks.antt`: what is left of the chunks, by the one that is read first.
 -- Assumes nothing.
-use mathlib.Core.Path.{◌≡◌, refl}
+use mathlib.Core.Path.{◌≡◌}
 use mathlib.Core.List.{List, []}
 use Prim.Native.Nat.{ℕ, zero, suc, ◌+◌, ◌-◌, ◌<◌}
 use native.Mathlib.Omega.{arith}
@@ -37,9 +37,9 @@ module _ (file : List ℕ) (at first total : ℕ) where
     unfolding chunks_at
     none_left = rw z
 
-    pub blocks-missing : (first ≡ total → ⊥) → chunks_at n file at first total ≡ stopped sparse_end
+    pub blocks_missing : (first ≡ total → ⊥) → chunks_at n file at first total ≡ stopped sparse_end
     unfolding chunks_at
-    blocks-missing b = rw (z, ne_eqb first total b)
+    blocks_missing b = rw (z, ne_eqb first total b)
 
     module _ (b : first ≡ total) where
       pub bytes_left : (at ≡ length file → ⊥) → chunks_at n file at first total ≡ stopped sparse_end

@@ -42,6 +42,7 @@ pub enum ChunkRead {
     Bad(usize),
 }
 
+#[tactic(auto, unfolding(crate::specs::Chunk::is_known))]
 fn is_known(tag: u16) -> bool
     ensures { result ≡ is_known tag }
 {
@@ -54,6 +55,7 @@ fn is_known(tag: u16) -> bool
 }
 
 // The kind of a known type.
+#[tactic(auto, unfolding(crate::specs::Chunk::kind_of))]
 fn kind_of(tag: u16) -> Kind
     ensures { result ≡ kind_of tag }
 {
@@ -64,6 +66,7 @@ fn kind_of(tag: u16) -> Kind
     }
 }
 
+#[tactic(auto, unfolding(crate::specs::Chunk::body_bytes))]
 fn body_bytes(kind: Kind, blocks: u32) -> usize
     ensures { result ≡ body_bytes kind blocks }
 {
@@ -85,6 +88,7 @@ fn bytes_left(length: usize, at: usize) -> usize
 }
 
 // A chunk whose header is there, with so many bytes of the file from its start on: body, type, blocks and total are good.
+#[tactic(auto, using(crate::proofs::ChunkLaws::body_bytes_most), unfolding(crate::specs::Chunk::is_formed))]
 fn is_formed(room: usize, tag: u16, blocks: u32, bytes: usize) -> bool
     ensures { result ≡ is_formed room tag blocks bytes }
 {
@@ -107,6 +111,7 @@ fn is_past(first: u32, blocks: u32, total: u32) -> bool
 }
 
 // The chunk at a position, with the blocks of all chunks before it and the blocks of the image.
+#[tactic(auto, unfolding(crate::specs::Chunk::chunk_at))]
 pub fn read_chunk(file: &[u8], at: usize, first: u32, total: u32) -> ChunkRead
     ensures { result ≡ chunk_at file.now at first total }
 {

@@ -8,6 +8,7 @@ use state::refusals::SPARSE_END;
 
 // What the first chunk that is refused is refused for, or the file at its end; 0 for nothing. A chunk takes bytes of the file, so
 // these, and not the number that the header claims, bound the walk.
+#[tactic(auto, using(crate::proofs::ChunksLaws::chunks_start, crate::proofs::ChunksLaws::chunks_bad, crate::proofs::ChunksLaws::blocks_missing, crate::proofs::ChunksLaws::bytes_left, crate::proofs::ChunksLaws::all_read))]
 pub fn check_chunks(file: &[u8]) -> usize
     ensures { result ≡ (chunks_of file.now).refusal }
 {

@@ -27,6 +27,7 @@ pub fn total_chunks(file: &[u8]) -> u32
 }
 
 // What the header is refused for, 0 for nothing.
+#[tactic(auto, unfolding(crate::specs::Header::header_refusal))]
 pub fn check_header(file: &[u8]) -> usize
     ensures { result ≡ header_refusal file.now }
 {
@@ -52,6 +53,7 @@ pub fn check_header(file: &[u8]) -> usize
 }
 
 // Whether an image of so many bytes has the header's blocks: the number of the refusal, 0 for none.
+#[tactic(auto, unfolding(crate::specs::Header::image_refusal))]
 pub fn check_image(file: &[u8], bytes: usize) -> usize
     ensures { result ≡ image_refusal (total_blocks file.now) bytes }
 {

@@ -57,8 +57,8 @@ unfolding same
 same_end a b i h l = rw (drop_of_length-le a {i = i} h, drop_of_length-le b {i = i} l)
 
 -- hashes of other lengths are not the same
-pub same_lengths_lem : (a b : List ℕ) → (length a ≡ length b → ⊥) → same a b ≡ false
-same_lengths_lem a b h = ⊎_elim (λ (e : same a b ≡ true). absurd (h (ap length (same_eq a b e)))) (λ (e : same a b ≡ false). e) (bool (same a b))
+pub other_length : (a b : List ℕ) → (length a ≡ length b → ⊥) → same a b ≡ false
+other_length a b h = ⊎_elim (λ (e : same a b ≡ true). absurd (h (ap length (same_eq a b e)))) (λ (e : same a b ≡ false). e) (bool (same a b))
 
 -- ---- a hash among the stashes
 

@@ -17,6 +17,7 @@ pub enum Found {
     Nothing,
 }
 
+#[tactic(auto, using(crate::proofs::StashLaws::other_length))]
 pub fn same_hash(a: &[u8], b: &[u8]) -> bool
     ensures { result ≡ same a.now b.now }
 {

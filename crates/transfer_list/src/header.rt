@@ -35,6 +35,7 @@ pub enum HeaderRead {
 }
 
 // A number and an LF.
+#[tactic(auto, unfolding(crate::specs::Header::header_line_at))]
 fn read_header_line(s: &[u8], at: usize) -> Number
     ensures { result ≡ header_line_at s.now at }
 {
@@ -47,6 +48,7 @@ fn read_header_line(s: &[u8], at: usize) -> Number
     }
 }
 
+#[tactic(auto, unfolding(crate::specs::Header::header_of))]
 pub fn read_header(s: &[u8]) -> HeaderRead
     ensures { result ≡ header_of s.now }
 {
@@ -81,6 +83,7 @@ fn is_area(most: usize, bytes: usize) -> bool
     bytes / BLOCK_BYTES <= most
 }
 
+#[tactic(auto, unfolding(crate::specs::Header::are_areas))]
 fn are_areas(lengths: Lengths) -> bool
     ensures { result ≡ are_areas lengths }
 {
@@ -96,6 +99,7 @@ fn are_areas(lengths: Lengths) -> bool
     is_area(MOST_RESULT_BLOCKS, lengths.result)
 }
 
+#[tactic(auto, unfolding(crate::specs::Header::header_refusal))]
 fn check_header(lengths: Lengths, read: HeaderRead) -> Refusal
     ensures { result ≡ header_refusal lengths read }
 {
@@ -137,6 +141,7 @@ fn check_header(lengths: Lengths, read: HeaderRead) -> Refusal
 }
 
 // What is refused before the first command line; number 0 for nothing.
+#[tactic(auto, unfolding(crate::specs::Header::start_refusal, crate::specs::Header::header_refusal))]
 pub fn check_start(s: &[u8], lengths: Lengths) -> Refusal
     ensures { result ≡ start_refusal s.now lengths }
 {

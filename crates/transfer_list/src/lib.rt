@@ -37,6 +37,7 @@ pub fn terms_of(lengths: Lengths, h: Header) -> Terms
 }
 
 // The blocks of a command's target that line 2 counts.
+#[tactic(auto, unfolding(crate::specs::Opening::counted_blocks))]
 fn counted_blocks(command: Command) -> usize
     ensures { result ≡ counted_blocks command }
 {
@@ -128,6 +129,7 @@ fn check_lines(list: &[u8], terms: Terms, h: Header) -> Refusal
 }
 
 // The refusal of an opening; number 0 for an accepted one.
+#[tactic(auto, unfolding(crate::specs::Opening::open_refusal, crate::specs::Opening::commands_refusal))]
 fn check_list(list: &[u8], lengths: Lengths) -> Refusal
     ensures { result ≡ open_refusal least_blocks list.now lengths }
 {
@@ -147,6 +149,7 @@ fn check_list(list: &[u8], lengths: Lengths) -> Refusal
 
 // Opens a list over an image, a stash area, a work area, a result area and patch data of the given lengths in bytes. The state holds the
 // refusal, if any.
+#[tactic(auto, unfolding(crate::specs::Opening::open_state, crate::specs::Opening::refused_state, crate::specs::Opening::accepted_state, crate::specs::Opening::first_at))]
 pub fn open(list: &[u8], image: usize, stash: usize, work: usize, res: usize, patch: usize) -> State
     ensures { result ≡ open_state least_blocks list.now (lengths_of list.now image stash work res patch) }
 {

@@ -1,11 +1,11 @@
 -- Document 01, "Putting a source together" and "The stash area", and document 02, R-8: what blocks hash to, and R-9: a `free` in stretches.
 -- Assumes nothing: these are definitions.
-use Rattle.std.specs.Prelude.{ℕ, ◌+◌, ◌-◌, ◌*◌, Bool, List, [], ◌∷◌, take, drop}
+use Rattle.std.specs.Prelude.{ℕ, ◌+◌, ◌*◌, Bool, List, [], ◌∷◌, take, drop}
 use Rattle.sha1_digest.specs.Sha1.{sha1}
 use Rattle.ranges.specs.Ranges.{span}
 use Rattle.ranges.specs.Walk.{blocks_at}
 use Rattle.state.specs.Limits.{block_bytes}
-use Rattle.state.specs.Stashes.{Stash, same, find_in, size_at, blocks_held, stash_start, younger}
+use Rattle.state.specs.Stashes.{Stash, same, find_in, size_at, stash_start, younger}
 use Rattle.state.specs.Stretches.{stretch_blocks}
 use Rattle.state.specs.declared.stashes.Found.{Found}
 use Rattle.state.specs.declared.stashes.Found.TheVariants.{At, Nothing}

@@ -67,8 +67,8 @@ pub(crate) fn place_block<'a>(
     k: usize,
     p: usize,
 )
-    requires block_bytes_in_bounds { block_bytes * k + block_bytes ≤ length (pick stashed stash.now image.now) }
-    requires block_bytes_in_bounds_2 { block_bytes * p + block_bytes ≤ length work.old }
+    requires block_within { block_bytes * k + block_bytes ≤ length (pick stashed stash.now image.now) }
+    requires place_within { block_bytes * p + block_bytes ≤ length work.old }
     ensures { work.new ≡ over work.old (block_bytes * p) (block_at (pick stashed stash.now image.now) k) }
 {
     let at = BLOCK_BYTES * p;

@@ -25,8 +25,8 @@ use state::refusals::{HASH_DIFFERS, PATCH_MALFORMED};
 // What the patch makes of a source, over the first bytes of the result area, as many as `size`; a malformed patch writes nothing.
 fn make_result(patch: &[u8], patching: Patching, source: &[u8], res: &mut [u8], size: usize) -> bool
     requires { (patching.start + patching.length ≤ length patch.now) × (size ≤ length res.old) }
-    ensures value { result ≡ is_patch (take patching.length (drop patching.start patch.now)) size }
-    ensures res_after { res.new ≡ pick result
+    ensures good { result ≡ is_patch (take patching.length (drop patching.start patch.now)) size }
+    ensures made { res.new ≡ pick result
         (over res.old 0 (patched_by (take patching.length (drop patching.start patch.now)) source.now))
         res.old }
 {
@@ -46,8 +46,8 @@ fn patch_source(
     target: RangeSet,
     n: usize,
 ) -> usize
-    requires n_in_bounds { (n ≤ length work.now / block_bytes) × (target.blocks ≤ length res.old / block_bytes) }
-    requires length_in_bounds { patching.start + patching.length ≤ length patch.now }
+    requires room { (n ≤ length work.now / block_bytes) × (target.blocks ≤ length res.old / block_bytes) }
+    requires patch_within { patching.start + patching.length ≤ length patch.now }
     ensures { (image stash : List ℕ) →
         effect_of (areas_of image stash work.now res.new patch.now) result
         ≡ patch_filled l.now patching target n
@@ -83,7 +83,7 @@ fn fill_bsdiff<'a>(
     hash: [u8; HASH_BYTES],
 ) -> usize
     requires keeps { Keeps (held_in (table_at hashes.now sizes.now count)) stash.now }
-    requires bsdiff_runs { BsdiffRuns l.now (held_in (table_at hashes.now sizes.now count))
+    requires runs { BsdiffRuns l.now (held_in (table_at hashes.now sizes.now count))
         (areas_of image.now stash.now work.old res.old patch.now) target n source }
     ensures { effect_of (areas_of image.now stash.now work.new res.new patch.now) result
         ≡ bsdiff_filled l.now (held_in (table_at hashes.now sizes.now count)) hash target n source
@@ -116,7 +116,7 @@ pub(crate) fn step_bsdiff(
     ready: usize,
 ) -> StepEnd
     requires keeps { Keeps (held_in (table_at hashes.now sizes.now count)) stash.now }
-    requires bsdiff_runs { BsdiffRuns l.now (held_in (table_at hashes.now sizes.now count))
+    requires runs { BsdiffRuns l.now (held_in (table_at hashes.now sizes.now count))
         (areas_of image.old stash.now work.old res.old patch.now) target n source }
     ensures { stepped (areas_of image.new stash.now work.new res.new patch.now) result
         ≡ fill_step l.now (held_in (table_at hashes.now sizes.now count)) hash (Bsdiff target n source) ready

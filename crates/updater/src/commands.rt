@@ -62,7 +62,7 @@ fn fill_move<'a>(
     hash: [u8; HASH_BYTES],
 ) -> usize
     requires keeps { Keeps (held_in (table_at hashes.now sizes.now count)) stash.now }
-    requires move_runs { MoveRuns l.now (held_in (table_at hashes.now sizes.now count)) image.now work.old target n source }
+    requires runs { MoveRuns l.now (held_in (table_at hashes.now sizes.now count)) image.now work.old target n source }
     ensures { (res patch : List ℕ) → effect_of (areas_of image.now stash.now work.new res patch) result
         ≡ move_filled l.now (held_in (table_at hashes.now sizes.now count)) hash n source
         (areas_of image.now stash.now work.old res patch) }
@@ -91,7 +91,7 @@ fn step_move(
     ready: usize,
 ) -> StepEnd
     requires keeps { Keeps (held_in (table_at hashes.now sizes.now count)) stash.now }
-    requires move_runs { MoveRuns l.now (held_in (table_at hashes.now sizes.now count)) image.old work.old target n source }
+    requires runs { MoveRuns l.now (held_in (table_at hashes.now sizes.now count)) image.old work.old target n source }
     ensures { (res patch : List ℕ) → stepped (areas_of image.new stash.now work.new res patch) result
         ≡ fill_step l.now (held_in (table_at hashes.now sizes.now count)) hash (Move target n source) ready
         (areas_of image.old stash.now work.old res patch) }
@@ -180,7 +180,7 @@ fn step_free(
     k: usize,
 ) -> StepEnd
     requires keeps { Keeps (held_in (table_at hashes.now sizes.now count)) stash.old }
-    requires hash_value { either (k == 0) (found_stretch (held_in (table_at hashes.now sizes.now count)) k (find_in (held_in (table_at hashes.now sizes.now count)) hash)) ≡ true }
+    requires may_stretch { either (k == 0) (found_stretch (held_in (table_at hashes.now sizes.now count)) k (find_in (held_in (table_at hashes.now sizes.now count)) hash)) ≡ true }
     ensures { (image work res patch : List ℕ) → stepped (areas_of image stash.new work res patch) result
         ≡ free_step (held_in (table_at hashes.now sizes.now count)) k (areas_of image stash.old work res patch)
         (find_in (held_in (table_at hashes.now sizes.now count)) hash) }
@@ -219,8 +219,8 @@ pub(crate) fn run_step(
     stretches: usize,
 ) -> StepEnd
     requires keeps { Keeps (held_in (table_at hashes.now sizes.now count)) stash.old }
-    requires runnable { Runnable l.now (held_in (table_at hashes.now sizes.now count)) (areas_of image.old stash.old work.old res.old patch.now) line.command }
-    requires command_value { either (stretches == 0) (frees_on (held_in (table_at hashes.now sizes.now count)) stretches line.hash line.command) ≡ true }
+    requires runs { Runnable l.now (held_in (table_at hashes.now sizes.now count)) (areas_of image.old stash.old work.old res.old patch.now) line.command }
+    requires may_stretch { either (stretches == 0) (frees_on (held_in (table_at hashes.now sizes.now count)) stretches line.hash line.command) ≡ true }
     ensures { stepped (areas_of image.new stash.new work.new res.new patch.now) result
         ≡ step_of l.now (held_in (table_at hashes.now sizes.now count)) line.hash line.command ready stretches
         (areas_of image.old stash.old work.old res.old patch.now) }

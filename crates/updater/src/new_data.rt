@@ -19,8 +19,8 @@ pub(crate) fn take_new(
     into: usize,
 ) -> usize
     requires { AllBelow (length image.old / block_bytes) (blocks_at l.now at) × (from ≤ length piece.now) }
-    ensures value { result ≡ from + min (length piece.now - from) (block_bytes * length (blocks_at l.now at) - into) }
-    ensures image_after { image.new ≡ put_bytes (blocks_at l.now at) into (take (result - from) (drop from piece.now)) image.old }
+    ensures left { result ≡ from + min (length piece.now - from) (block_bytes * length (blocks_at l.now at) - into) }
+    ensures put { image.new ≡ put_bytes (blocks_at l.now at) into (take (result - from) (drop from piece.now)) image.old }
 {
     let mut i = from;
     let mut skip = into;

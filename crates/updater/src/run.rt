@@ -141,9 +141,9 @@ fn after_step(
     end: StepEnd,
 ) -> Left
     requires { (progress.at + length l.now < 2 ^ 64) × (progress.line + 1 < 2 ^ 64) × (progress.stretches + 1 < 2 ^ 64) }
-    ensures progress_after { state_with hashes.new sizes.new result.progress
+    ensures state { state_with hashes.new sizes.new result.progress
         ≡ state_after l.now line.hash line.command (state_with hashes.old sizes.old progress) end }
-    ensures stop_value { result.stop ≡ stops_after end }
+    ensures stop { result.stop ≡ stops_after end }
 {
     match end {
         StepEnd::Passed => {
@@ -190,7 +190,7 @@ pub(crate) fn run_lines(
     first: Progress,
 ) -> Ran
     requires fits { Fits list.now terms (config_of (areas_of image.old stash.old work.old res.old patch.now) (state_with hashes.old sizes.old first)) }
-    requires number_value { first.refusal.number ≡ 0 }
+    requires unrefused { first.refusal.number ≡ 0 }
     ensures { reached (config_of (areas_of image.new stash.new work.new res.new patch.now) (state_with hashes.new sizes.new result.progress)) result.taken result.stop ≡ run_of least_blocks list.now terms piece.now (config_of (areas_of image.old stash.old work.old res.old patch.now) (state_with hashes.old sizes.old first)) }
 {
     let mut marks = [0u8; MARK_BYTES];

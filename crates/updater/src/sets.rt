@@ -99,9 +99,9 @@ pub(crate) fn fill<'a>(
     blocks: Blocks,
     places: Blocks,
 )
-    requires all_below { AllBelow (length (pick stashed stash.now image.now) / block_bytes) (blocks_left l.now blocks) }
-    requires all_below_2 { AllBelow (length work.old / block_bytes) (blocks_left l.now places) }
-    requires blocks_len { length (blocks_left l.now blocks) ≡ length (blocks_left l.now places) }
+    requires blocks_below { AllBelow (length (pick stashed stash.now image.now) / block_bytes) (blocks_left l.now blocks) }
+    requires places_below { AllBelow (length work.old / block_bytes) (blocks_left l.now places) }
+    requires as_many { length (blocks_left l.now blocks) ≡ length (blocks_left l.now places) }
     ensures { work.new ≡ written (blocks_left l.now places) (gathered (blocks_left l.now blocks) (pick stashed stash.now image.now)) work.old }
 {
     let mut from = blocks;

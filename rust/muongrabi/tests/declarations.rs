@@ -12,6 +12,8 @@ const BUILD: &str = include_str!("../build.rs");
 /// The same declarations again, for tests that call the exports themselves.
 const RAW: &str = include_str!("../../check/src/raw.rs");
 const LIBRARY: &str = include_str!("../../../crates/muongrabi/src/lib.rt");
+/// The same functions as the archive has them.
+const ARCHIVE: &str = include_str!("../../../crates/muongrabi_c/src/lib.rt");
 const LIMITS: &str = include_str!("../../../crates/state/src/limits.rt");
 const REFUSALS: &str = include_str!("../../../crates/state/src/refusals.rt");
 const SAVED_FORM: &str = include_str!("../../../crates/saved/src/lib.rt");
@@ -47,7 +49,7 @@ fn abi() {
     for (text, declared) in [
         (HEADER, format!("\nsize_t {name}(void);")),
         (EXPORTS, format!("fn {name}() -> usize;")),
-        (LIBRARY, format!("fn {name}() -> usize")),
+        (ARCHIVE, format!("fn {name}() -> usize")),
         (BUILD, format!("\"{name}\"")),
     ] {
         assert!(text.contains(&declared), "{declared}");
@@ -395,10 +397,10 @@ fn functions() {
         let parameters = between(HEADER, &format!("\n{gives_in_c} muongrabi_{name}("), ");").split(',').map(str::trim);
         assert_eq!(parameters.map(header_crosses).collect::<String>(), takes, "{name} in the header");
         assert_eq!(rust_crosses(EXPORTS, name, crate_constant), takes, "{name} in this crate");
-        // `data` is no name for a parameter in the proved source.
-        let proved = rust_crosses(LIBRARY, name, proved_constant);
+        // `data` and `result` are no names for a parameter in the proved source.
+        let proved = rust_crosses(ARCHIVE, name, proved_constant).replace(", res ", ", result ");
         assert_eq!(if name == "run" { proved.replace("bytes", "data") } else { proved }, takes, "{name} in the proved source");
-        for source in [EXPORTS, LIBRARY] {
+        for source in [EXPORTS, ARCHIVE] {
             let (_, declared) = source.split_once(&format!("fn muongrabi_{name}(")).expect("a function");
             assert_eq!(between(declared, ")", "\n").trim_end_matches(';'), gives, "{name}");
         }
@@ -414,7 +416,7 @@ fn names<'a>(text: &'a str, before: &str) -> Vec<&'a str> {
 fn no_function_is_left_out() {
     let mut all: Vec<&str> = vec!["abi_6"];
     all.extend(ABI_6.map(|(name, ..)| name));
-    assert_eq!(names(LIBRARY, "pub extern \"C\" fn muongrabi_"), all);
+    assert_eq!(names(ARCHIVE, "#[unsafe(no_mangle)]\npub extern \"C\" fn muongrabi_"), all);
     assert_eq!(names(EXPORTS, "    fn muongrabi_"), all);
     let declared = HEADER.lines().filter(|line| ["void ", "size_t ", "uint32_t "].iter().any(|gives| line.starts_with(gives)));
     assert_eq!(declared.flat_map(|line| names(line, " muongrabi_")).collect::<Vec<_>>(), all);

@@ -1,0 +1,24 @@
+-- `sha1_digest::rounds::rounds_0_19` meets its contract. The loop has made the rounds from 0 up to t.
+use Rattle.std.proofs.Common.{◌≡◌, refl, ◌∙◌, arith}
+use Rattle.sha1_digest.specs.Sha1 as S
+use Rattle.sha1_digest.proofs.RoundLaws.{more-ch}
+use Rattle.sha1_digest.proofs.rounds.rounds_0_19.Goals as goal
+
+pub loop-t-init : goal.loop-t-init
+unfolding S.rounds
+loop-t-init c = (omega arith, refl)
+
+pub loop-t-preserved : goal.loop-t-preserved
+loop-t-preserved c =
+    let l = c.loop-t in
+    let a = c.args in (
+      omega arith,
+      (rw c.ch.ensures at c.step-v.ensures)
+          ∙ more-ch a.w.now 0 l.t a.h l.v (omega arith) l.invariant.1 (omega arith),
+    )
+
+pub returns : goal.returns
+returns c =
+    let l = c.loop-t in
+    let t : l.t ≡ 20 = omega arith in
+    rw t at l.invariant.1

@@ -1,0 +1,8 @@
+-- `text::number::read_number_for` meets its contract: a number that meets the need, read as any number is, is the one
+-- that is read for the need.
+use mathlib.Core.Path.{sym, ◌∙◌}
+use Rattle.text.proofs.NeedLaws.{number-met}
+use Rattle.text.proofs.number.read_number_for.Goals as goal
+
+pub returns-then-meets : goal.returns-then-meets
+returns-then-meets c = sym (number-met _ _ _ (sym c.read_number-read.ensures ∙ c.in-Good.is) (sym c.meets.ensures ∙ c.if-meets.true))

@@ -1,1 +1,2 @@
 pub mod SequenceLaws
+pub mod ClaimLaws

@@ -35,8 +35,8 @@ use Rattle.restart.specs.Writes.{AreasOutside}
 use Rattle.restart.specs.Restart.{writes, opening as stands-opening}
 use Rattle.restart.proofs.ClaimLaws.{restart_claim}
 use Rattle.muongrabi.specs.Answers.{outcome_number, outcome_numbers, answer_of, Opened, Answered, answered_as, answer_to, Calls}
-use Rattle.muongrabi.proofs.AnswerLaws.{told, called-saved}
-use Rattle.boundary.specs.Sequence.{Kept, keeping, outcome_in, IsStop, keeping_on, ExportedCalls, last, next, AcceptedOpening, Follows, EndsAs, KeptAlike, Stored, ExportClaim}
+use Rattle.muongrabi.proofs.AnswerLaws.{called-saved}
+use Rattle.boundary.specs.Sequence.{Kept, keeping, outcome_in, IsStop, keeping_on, ExportedCalls, last, next, AcceptedOpening, Follows, EndsAs, KeptAlike, Stored}
 
 -- ---- whether a call stopped is told by its answer
 
@@ -130,7 +130,7 @@ all_end s {q = q} m v (next h k) =
     let e = all_end s (next_call least_blocks s q m) (call-stands s q v h) k in
     record { stands = e.stands; state = e.state; answer = e.answer }
 
-follows : (s : List ℕ) (p : Config) (state : List ℕ) → restored_of state ≡ restored_as p.state →
+pub follows : (s : List ℕ) (p : Config) (state : List ℕ) → restored_of state ≡ restored_as p.state →
     (q : List ℕ) (qs : List (List ℕ)) {d : Kept} {said : List ℕ} → ExportedCalls s (keeping p.areas state) q qs d said → Follows s p q qs d said
 follows s p state r q qs k =
     let e = all_end s (no_calls p) (record { areas = refl; read = r; rest = refl; taken = refl }) k in
@@ -157,7 +157,7 @@ goes_on_lem : {s : List ℕ} {p : Config} {q : List ℕ} {qs : List (List ℕ)} 
     NoStop (last_says least_blocks s q qs (no_calls p))
 goes_on_lem f g e = g (ap (λ (x : List ℕ). get_or x 0 0) f.answer ∙ ap outcome_number e)
 
-agrees : (s : List ℕ) (a : Areas) (state : List ℕ) → AcceptedOpening s a state →
+pub agrees : (s : List ℕ) (a : Areas) (state : List ℕ) → AcceptedOpening s a state →
     (q : List ℕ) (qs : List (List ℕ)) {d : Kept} {said : List ℕ} → ExportedCalls s (keeping a state) q qs d said → (IsStop said → ⊥) →
     EndsAs s a d said (model least_blocks s a (joined (q ∷ qs)))
 agrees s a state o q qs k g =
@@ -192,7 +192,7 @@ module _ (s : List ℕ) (a : Areas) {all left : List ℕ} {areas : Areas} {state
   says-stop {q} {qs} f e =
       number-stop (last_says least_blocks s q qs (no_calls first)) (sym (ap (λ (x : List ℕ). get_or x 0 0) f.answer) ∙ e)
 
-  stop : (q : List ℕ) (qs : List (List ℕ)) (later : List ℕ) → joined (q ∷ qs) ++ later ≡ left →
+  pub stop : (q : List ℕ) (qs : List (List ℕ)) (later : List ℕ) → joined (q ∷ qs) ++ later ≡ left →
       {d : Kept} {said : List ℕ} → ExportedCalls s (keeping areas state) q qs d said → IsStop said →
       Stored s a all (d.rest ++ later) d.areas d.state
   stop q qs later j {d} k e =
@@ -203,14 +203,14 @@ module _ (s : List ℕ) (a : Areas) {all left : List ℕ} {areas : Areas} {state
         stands = rw (f.rest, f.areas, ap (λ (x : Restored). x.state) f.read) w;
       }
 
-  cut : (b : Areas) → AreasOutside (writes s left first) areas b → Stored s a all left b state
+  pub cut : (b : Areas) → AreasOutside (writes s left first) areas b → Stored s a all left b state
   cut b o = record { number = z.number; stands = restart_claim.cuts s a z.stands b o }
 
   module _ (opened : List ℕ) (o : AcceptedOpening s a opened) where
-    onward : length all < 2 ^ 64 → left ≡ drop (restored_of state).state.total all
+    pub onward : length all < 2 ^ 64 → left ≡ drop (restored_of state).state.total all
     onward l = restart_claim.onward s a (opened-accepted s a opened o) z.stands l
 
-    restarts : (q : List ℕ) (qs : List (List ℕ)) {d : Kept} {said : List ℕ} → joined (q ∷ qs) ≡ left →
+    pub restarts : (q : List ℕ) (qs : List (List ℕ)) {d : Kept} {said : List ℕ} → joined (q ∷ qs) ≡ left →
         ExportedCalls s (keeping areas state) q qs d said → (IsStop said → ⊥) →
         (r : List ℕ) (rs : List (List ℕ)) {e : Kept} {other : List ℕ} → joined (r ∷ rs) ≡ all →
         ExportedCalls s (keeping a opened) r rs e other → (IsStop other → ⊥) → KeptAlike d e said other
@@ -224,13 +224,13 @@ module _ (s : List ℕ) (a : Areas) {all left : List ℕ} {areas : Areas} {state
           outcome = ap outcome_in f.answer ∙ (ap outcome_numbers x.outcome ∙ sym (ap outcome_in w.answer));
         }
 
-    ends : (q : List ℕ) (qs : List (List ℕ)) {d : Kept} {said : List ℕ} →
+    pub ends : (q : List ℕ) (qs : List (List ℕ)) {d : Kept} {said : List ℕ} →
         ExportedCalls s (keeping areas state) q (qs ++ replicate (line_steps * (length s + 1)) []) d said → IsStop said → ⊥
     ends q qs k e =
         let f = stored_follows q (qs ++ replicate (line_steps * (length s + 1)) []) k in
         restart_claim.ends s a (opened-accepted s a opened o) z.stands q qs (says-stop f e)
 
-opening : (s : List ℕ) (a : Areas) (state : List ℕ) → AcceptedOpening s a state → (all : List ℕ) → Stored s a all all a state
+pub opening : (s : List ℕ) (a : Areas) (state : List ℕ) → AcceptedOpening s a state → (all : List ℕ) → Stored s a all all a state
 opening s a state o all =
     let r = opened-read s a state o in
     record {
@@ -241,26 +241,10 @@ opening s a state o all =
 -- ---- one call by itself
 
 -- a call that is no run leaves the bytes of the state
-stays : (s piece bytes : List ℕ) (lent areas : Areas) (state answer : List ℕ) → AllBelow 256 bytes → (restored_of bytes).number ≡ none →
+pub stays : (s piece bytes : List ℕ) (lent areas : Areas) (state answer : List ℕ) → AllBelow 256 bytes → (restored_of bytes).number ≡ none →
     is_run least_blocks s (config_of lent (restored_of bytes).state) ≡ false → Calls s piece lent bytes areas state answer → state ≡ bytes
 unfolding call_of leaves
 stays s piece bytes lent areas state answer l e n h =
     let t = (restored_of bytes).state in
     let c = h ∙ sym (called-saved s piece lent bytes e t (call_of least_blocks s piece (config_of lent t)) refl refl) in
     ap (λ (x : Answered). x.state) c ∙ rw n (saved-claim.own-form bytes l e).form
-
--- THE CLAIM, of calls through the exports
-pub export_claim : ExportClaim
-export_claim =
-    record {
-      told = told;
-      stays = stays;
-      follows = follows;
-      agrees = agrees;
-      opening = opening;
-      stop = λ s a z. stop s a z;
-      cut = λ s a z. cut s a z;
-      onward = λ s a opened o z. onward s a z opened o;
-      restarts = λ s a opened o z. restarts s a z opened o;
-      ends = λ s a opened o z. ends s a z opened o;
-    }

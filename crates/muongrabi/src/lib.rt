@@ -259,8 +259,9 @@ pub fn muongrabi_restore(
 }
 
 // Reads a sparse file over an image, and gives the number of the refusal, 0 for none.
+#[tactic(auto, using(sparse::proofs::NumberLaws::load_most))]
 pub fn muongrabi_sparse_load(file: &[u8], image: &mut [u8]) -> u32
-    ensures value { result ≡ load_refusal file.now (length image.old) }
+    ensures number { result ≡ load_refusal file.now (length image.old) }
     ensures image_after { image.new ≡ loaded_image file.now image.old }
 {
     sparse::load(file, image) as u32

@@ -120,7 +120,7 @@ pub extern "C" fn muongrabi_restore(
 // Reads a sparse file over an image, and gives the number of the refusal, 0 for none.
 #[unsafe(no_mangle)]
 pub extern "C" fn muongrabi_sparse_load(file: &[u8], image: &mut [u8]) -> u32
-    ensures value { result ≡ load_refusal file.now (length image.old) }
+    ensures number { result ≡ load_refusal file.now (length image.old) }
     ensures image_after { image.new ≡ loaded_image file.now image.old }
 {
     muongrabi::muongrabi_sparse_load(file, image)

@@ -30,7 +30,7 @@ pub fn check_load(file: &[u8], image: usize) -> usize
 // written.
 #[tactic(auto, using(crate::proofs::LoadingLaws::load_size, crate::proofs::LoadingLaws::image_loaded, crate::proofs::LoadingLaws::image_kept))]
 pub fn load(file: &[u8], image: &mut [u8]) -> usize
-    ensures value { result ≡ load_refusal file.now (length image.old) }
+    ensures number { result ≡ load_refusal file.now (length image.old) }
     ensures image_after { image.new ≡ loaded_image file.now image.old }
 {
     let refusal = check_load(file, image.len());

@@ -206,13 +206,13 @@ module _ (s : List ℕ) (terms : Terms) where
         at = f.at;
         line = f.line;
         image = rw o.image.size f.image;
-        most_image_lem = f.most_image_lem;
+        most-image = f.most-image;
         work = rw o.work.size f.work;
         result = rw o.result.size f.result;
         patch = rw o.patch f.patch;
         stash = rw o.stash.size f.stash;
-        most_blocks_lem = f.most_blocks_lem;
-        most_stashes_lem = f.most_stashes_lem;
+        most-blocks = f.most-blocks;
+        most-stashes = f.most-stashes;
         whole = f.whole;
         blocks = f.blocks;
         total = f.total;

@@ -275,9 +275,9 @@ one_number b = go (is_saved b)
     go true = inl refl
     go false = inr refl
 
-no_state_lem : (b : List ℕ) → (restored_of b).number ≡ no_saved_form → (restored_of b).state ≡ no_state
+no-state : (b : List ℕ) → (restored_of b).number ≡ no_saved_form → (restored_of b).state ≡ no_state
 unfolding restored_of
-no_state_lem b e = go (is_saved b) e
+no-state b e = go (is_saved b) e
   where
     go : (t : Bool) → (pick t (restored_as (state_in b)) refused).number ≡ no_saved_form → (pick t (restored_as (state_in b)) refused).state ≡ no_state
     go true e = absurd (omega arith)
@@ -297,6 +297,6 @@ claim =
       read_back = read_back;
       own-form = own-form;
       one_number = one_number;
-      no_state_lem = no_state_lem;
+      no-state = no-state;
       no-form = no-form;
     }

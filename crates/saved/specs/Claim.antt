@@ -21,5 +21,5 @@ pub record SavedClaim : Type 0 where
   pub own-form : (b : List ℕ) → AllBelow 256 b → (restored_of b).number ≡ none → FormOf b (restored_of b).state
   -- 20 is the only other number; it comes with no state, and only where the bytes are no state's saved form
   pub one_number : (b : List ℕ) → ((restored_of b).number ≡ none) ⊎ ((restored_of b).number ≡ no_saved_form)
-  pub no_state_lem : (b : List ℕ) → (restored_of b).number ≡ no_saved_form → (restored_of b).state ≡ no_state
+  pub no-state : (b : List ℕ) → (restored_of b).number ≡ no_saved_form → (restored_of b).state ≡ no_state
   pub no-form : (b : List ℕ) → (restored_of b).number ≡ no_saved_form → (s : State) → FormOf b s → ⊥

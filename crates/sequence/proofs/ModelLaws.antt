@@ -163,7 +163,7 @@ module _ (s : List ℕ) (terms : Terms) (Inv : Config → Type 0) (g : Runs s te
         f
         (rw (
           h,
-          ← (held_after_lem line terms (table_of p.state) (command_of least_blocks line).hash (g.fits p v).whole (g.fits p v).most_stashes_lem
+          ← (held_after_lem line terms (table_of p.state) (command_of least_blocks line).hash (g.fits p v).whole (g.fits p v).most-stashes
               (command-hash line) (current_command least_blocks s p) good),
         ))))
         (λ (h : eqb done.refusal none ≡ false).

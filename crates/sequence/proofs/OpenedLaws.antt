@@ -65,13 +65,13 @@ module _ (s : List ℕ) (a : Areas) (o : Opening s (lengths_at s a)) where
         at = f.1;
         line = omega arith;
         image = refl;
-        most_image_lem = o.image.fits;
+        most-image = o.image.fits;
         work = refl;
         result = refl;
         patch = refl;
         stash = omega (arith, o.blocks);
-        most_blocks_lem = omega (arith, o.blocks, o.stash.fits);
-        most_stashes_lem = o.stashes;
+        most-blocks = omega (arith, o.blocks, o.stash.fits);
+        most-stashes = o.stashes;
         whole =
             record {
               hashes = length-replicate {A = ℕ} table_bytes 0;

@@ -279,7 +279,7 @@ module _ (s : List ℕ) (lengths : Lengths) (h : Header) where
           lengths = refl;
           holds =
               held_after_lem (current_line s p) (terms_of lengths h) (table_of p.state) (command_of least_blocks (current_line s p)).hash v.fits.whole
-              v.fits.most_stashes_lem (command-hash (current_line s p)) (current_command least_blocks s p) e;
+              v.fits.most-stashes (command-hash (current_line s p)) (current_command least_blocks s p) e;
         }
 
     -- a step of the command on its line

@@ -90,13 +90,13 @@ module _ (s : List ℕ) (p : Config) where
         at = t.at;
         line = t.line;
         image = refl;
-        most_image_lem = o.image.fits;
+        most-image = o.image.fits;
         work = refl;
         result = refl;
         patch = refl;
         stash = omega (arith, o.blocks);
-        most_blocks_lem = omega (arith, o.blocks, o.stash.fits);
-        most_stashes_lem = o.stashes;
+        most-blocks = omega (arith, o.blocks, o.stash.fits);
+        most-stashes = o.stashes;
         whole = record { hashes = hashes; sizes = sizes; count = t.count };
         blocks = t.blocks;
         total = total;

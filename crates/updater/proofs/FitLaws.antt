@@ -101,13 +101,13 @@ module _ (s : List ℕ) (terms : Terms) (p : Config) (f : Fits s terms p) where
         at = t.at;
         line = t.line;
         image = rw e.image f.image;
-        most_image_lem = f.most_image_lem;
+        most-image = f.most-image;
         work = rw e.work f.work;
         result = rw e.result f.result;
         patch = rw e.patch f.patch;
         stash = rw e.stash f.stash;
-        most_blocks_lem = f.most_blocks_lem;
-        most_stashes_lem = f.most_stashes_lem;
+        most-blocks = f.most-blocks;
+        most-stashes = f.most-stashes;
         whole = t.whole;
         blocks = t.blocks;
         total = t.total;
@@ -215,7 +215,7 @@ module _ (s : List ℕ) (terms : Terms) (p : Config) (f : Fits s terms p) (h : p
       past =
           let t = table_of p.state in
           step_past a (table_after t hash c) same (table-whole l terms t hash f.whole (command-hash l) c)
-          (rw (held_after_lem l terms t hash f.whole f.most_stashes_lem (command-hash l) c e) (held-blocks l terms xs hash c e f.blocks))
+          (rw (held_after_lem l terms t hash f.whole f.most-stashes (command-hash l) c e) (held-blocks l terms xs hash c e f.blocks))
 
       go : (x : StepEnd) → (step_at l hash c p).end ≡ x → Told xs hash c p.state.ready k x →
           StepKeeps s terms p (config_of a (state_after l hash c p.state x))
@@ -225,7 +225,7 @@ module _ (s : List ℕ) (terms : Terms) (p : Config) (f : Fits s terms p) (h : p
       go Stretched e t =
           let few = stretches-few xs hash c (k + 1) t in
           let b = f.blocks in
-          let m = f.most_blocks_lem in
+          let m = f.most-blocks in
           step_stays a p.state.ready (k + 1) same (either_is (eqb (k + 1) 0) t) (omega arith)
       go (Refused number) r t = step-refused a number 0 same (in_run_some (step-refuses l xs hash c p.state.ready k p.areas r))
 

@@ -15,13 +15,13 @@ pub record Fits (s : List ℕ) (terms : Terms) (p : Config) : Type 0 where
   pub at : p.state.at ≤ length s
   pub line : p.state.line ≤ p.state.at + 1
   pub image : terms.image ≡ blocks_in p.areas.image
-  pub most_image_lem : terms.image ≤ most_image_blocks
+  pub most-image : terms.image ≤ most_image_blocks
   pub work : terms.work ≡ blocks_in p.areas.work
   pub result : terms.result ≡ blocks_in p.areas.result
   pub patch : terms.patch ≡ length p.areas.patch
   pub stash : block_bytes * terms.blocks ≤ length p.areas.stash
-  pub most_blocks_lem : terms.blocks ≤ most_area_blocks
-  pub most_stashes_lem : terms.stashes ≤ most_stashes
+  pub most-blocks : terms.blocks ≤ most_area_blocks
+  pub most-stashes : terms.stashes ≤ most_stashes
   pub whole : Whole (table_of p.state)
   pub blocks : blocks_held (held p.state) ≤ terms.blocks
   pub total : p.state.total < 2 ^ 64

@@ -1,5 +1,5 @@
 -- `zero_all` meets its contract.
-use Rattle.std.proofs.Common.{◌≡◌, ℕ, ◌<◌, length, replicate, add-one, arith, length-set}
+use Rattle.std.proofs.Common.{ℕ, ◌<◌, length, replicate, add-one, arith, length-set}
 use lib.ListN.{length-replicate, get_or-replicate}
 use Rattle.copy.proofs.OverLaws.{front-more}
 use Rattle.updater.proofs.areas.zero_all.Goals as goal

@@ -1,13 +1,14 @@
 -- Sequences of calls through the exports are those of the claim, call by call.
 -- Assumes nothing.
 use Prim.Native.Nat.{ℕ, ◌+◌, ◌*◌, ◌<◌, ◌^◌}
-use mathlib.Core.Path.{◌≡◌, refl, sym, ap, subst, ◌∙◌}
+use mathlib.Core.Path.{◌≡◌, refl, sym, ap, ◌∙◌}
 use mathlib.Core.Bool.{Bool, true, false}
 use mathlib.Core.List.{List, [], ◌∷◌, ◌++◌}
 use native.Mathlib.Omega.{arith}
 use borrow.Author.Tests.{ne_eqb}
 use lib.Dec.{eqb}
 use lib.ListN.{length, get_or, drop, replicate}
+use Rattle.std.specs.Prelude.{Ok}
 use Rattle.text.specs.Below.{AllBelow}
 use Rattle.text.specs.Choice.{pick, both}
 use Rattle.ranges.specs.Ranges.{least_blocks}
@@ -22,11 +23,10 @@ use Rattle.updater.specs.Calls.{outcome_of, lengths_at, is_run, leaves, takes, s
 use Rattle.updater.specs.Steps.{Config, config_of}
 use Rattle.updater.specs.declared.Outcome.{Outcome}
 use Rattle.updater.specs.declared.Outcome.TheVariants.{Done, More, Stop, Refused}
-use Rattle.saved.specs.Restored.{restored_as, restored_of}
-use Rattle.saved.specs.declared.Restored.{Restored}
+use Rattle.saved.specs.Restored.{restored_of}
 use Rattle.saved.specs.Saved.{saved_of}
 use Rattle.saved.proofs.ClaimLaws.{claim as saved-claim}
-use Rattle.sequence.specs.Claim.{opened_config, Accepted, NoStop, Holds}
+use Rattle.sequence.specs.Claim.{opened_config, Accepted, NoStop}
 use Rattle.sequence.specs.Model.{model}
 use Rattle.sequence.specs.Sequence.{CallsMade, no_calls, piece_of, next_call, all_calls, last_says, last_takes}
 use Rattle.sequence.proofs.SequenceLaws.{outcome-no-stop}
@@ -76,7 +76,7 @@ module _ (s piece : List ℕ) (p : Config) where
 -- what a caller keeps stands for what the calls of the claim made
 record Stands (c : Kept) (m : CallsMade) : Type 0 where
   areas : c.areas ≡ m.config.areas
-  read : restored_of c.state ≡ restored_as m.config.state
+  read : restored_of c.state ≡ Ok m.config.state
   rest : c.rest ≡ m.rest
   taken : c.taken ≡ m.taken
 
@@ -88,8 +88,8 @@ module _ (s q : List ℕ) {c : Kept} {m : CallsMade} {areas : Areas} {state answ
   called : answered_as areas state answer ≡ answer_to (call_of least_blocks s piece m.config)
   called =
       h
-      ∙ sym (called-saved s (c.rest ++ q) c.areas c.state (ap (λ (x : Restored). x.number) v.read) m.config.state
-      (call_of least_blocks s piece m.config) (sym (ap (λ (x : Restored). x.state) v.read)) (rw (v.areas, v.rest)))
+      ∙ sym (called-saved s (c.rest ++ q) c.areas c.state m.config.state v.read (call_of least_blocks s piece m.config)
+      (rw (v.areas, v.rest)))
 
   call-areas : areas ≡ (leaves least_blocks s piece m.config).areas
   unfolding call_of
@@ -99,7 +99,7 @@ module _ (s q : List ℕ) {c : Kept} {m : CallsMade} {areas : Areas} {state answ
   unfolding call_of
   call-state = ap (λ (x : Answered). x.state) called
 
-  call-read : restored_of state ≡ restored_as (leaves least_blocks s piece m.config).state
+  call-read : restored_of state ≡ Ok (leaves least_blocks s piece m.config).state
   unfolding call_of
   call-read = ap (λ (x : Answered). x.read) called
 
@@ -130,7 +130,7 @@ all_end s {q = q} m v (next h k) =
     let e = all_end s (next_call least_blocks s q m) (call-stands s q v h) k in
     record { stands = e.stands; state = e.state; answer = e.answer }
 
-pub follows : (s : List ℕ) (p : Config) (state : List ℕ) → restored_of state ≡ restored_as p.state →
+pub follows : (s : List ℕ) (p : Config) (state : List ℕ) → restored_of state ≡ Ok p.state →
     (q : List ℕ) (qs : List (List ℕ)) {d : Kept} {said : List ℕ} → ExportedCalls s (keeping p.areas state) q qs d said → Follows s p q qs d said
 follows s p state r q qs k =
     let e = all_end s (no_calls p) (record { areas = refl; read = r; rest = refl; taken = refl }) k in
@@ -146,7 +146,7 @@ follows s p state r q qs k =
 -- ---- after an opening
 
 module _ (s : List ℕ) (a : Areas) (state : List ℕ) (o : AcceptedOpening s a state) where
-  opened-read : restored_of state ≡ restored_as (opened_config s a).state
+  opened-read : restored_of state ≡ Ok (opened_config s a).state
   opened-read = ap (λ (x : Opened). x.read) o.opens
 
   opened-accepted : Accepted s a
@@ -165,26 +165,21 @@ agrees s a state o q qs k g =
     let w = claim.agrees s a (opened-accepted s a state o) q qs (goes_on_lem f g) in
     record {
       areas = f.areas ∙ w.areas;
-      number = ap (λ (x : Restored). x.number) f.read;
-      state =
-          subst (λ (x : State). Holds (lengths_at s a) x (model least_blocks s a (joined (q ∷ qs))))
-          (sym (ap (λ (x : Restored). x.state) f.read)) w.state;
+      left = (all_calls least_blocks s (q ∷ qs) (no_calls (opened_config s a))).config.state;
+      read = f.read;
+      state = w.state;
       outcome = ap outcome_in f.answer ∙ ap outcome_numbers w.outcome;
       taken = f.taken ∙ w.taken;
     }
 
 -- ---- what is stored
 
--- a restored state with number 0 is that state
-restored_as_lem : (r : Restored) → r.number ≡ none → r ≡ restored_as r.state
-restored_as_lem r e = rw e
-
 module _ (s : List ℕ) (a : Areas) {all left : List ℕ} {areas : Areas} {state : List ℕ} (z : Stored s a all left areas state) where
   abbrev first : Config
-  first = config_of areas (restored_of state).state
+  first = config_of areas z.held
 
   stored_follows : (q : List ℕ) (qs : List (List ℕ)) {d : Kept} {said : List ℕ} → ExportedCalls s (keeping areas state) q qs d said → Follows s first q qs d said
-  stored_follows q qs k = follows s first state (restored_as_lem (restored_of state) z.number) q qs k
+  stored_follows q qs k = follows s first state z.read q qs k
 
   -- an answer that says stop
   says-stop : {q : List ℕ} {qs : List (List ℕ)} {d : Kept} {said : List ℕ} → Follows s first q qs d said → IsStop said →
@@ -199,15 +194,16 @@ module _ (s : List ℕ) (a : Areas) {all left : List ℕ} {areas : Areas} {state
       let f = stored_follows q qs k in
       let w = restart_claim.stops s a z.stands q qs later j (says-stop f e) in
       record {
-        number = ap (λ (x : Restored). x.number) f.read;
-        stands = rw (f.rest, f.areas, ap (λ (x : Restored). x.state) f.read) w;
+        held = (all_calls least_blocks s (q ∷ qs) (no_calls first)).config.state;
+        read = f.read;
+        stands = rw (f.rest, f.areas) w;
       }
 
   pub cut : (b : Areas) → AreasOutside (writes s left first) areas b → Stored s a all left b state
-  cut b o = record { number = z.number; stands = restart_claim.cuts s a z.stands b o }
+  cut b o = record { held = z.held; read = z.read; stands = restart_claim.cuts s a z.stands b o }
 
   module _ (opened : List ℕ) (o : AcceptedOpening s a opened) where
-    pub onward : length all < 2 ^ 64 → left ≡ drop (restored_of state).state.total all
+    pub onward : length all < 2 ^ 64 → left ≡ drop z.held.total all
     onward l = restart_claim.onward s a (opened-accepted s a opened o) z.stands l
 
     pub restarts : (q : List ℕ) (qs : List (List ℕ)) {d : Kept} {said : List ℕ} → joined (q ∷ qs) ≡ left →
@@ -232,19 +228,14 @@ module _ (s : List ℕ) (a : Areas) {all left : List ℕ} {areas : Areas} {state
 
 pub opening : (s : List ℕ) (a : Areas) (state : List ℕ) → AcceptedOpening s a state → (all : List ℕ) → Stored s a all all a state
 opening s a state o all =
-    let r = opened-read s a state o in
-    record {
-      number = ap (λ (x : Restored). x.number) r;
-      stands = rw (ap (λ (x : Restored). x.state) r) stands-opening;
-    }
+    record { held = (opened_config s a).state; read = opened-read s a state o; stands = stands-opening }
 
 -- ---- one call by itself
 
 -- a call that is no run leaves the bytes of the state
-pub stays : (s piece bytes : List ℕ) (lent areas : Areas) (state answer : List ℕ) → AllBelow 256 bytes → (restored_of bytes).number ≡ none →
-    is_run least_blocks s (config_of lent (restored_of bytes).state) ≡ false → Calls s piece lent bytes areas state answer → state ≡ bytes
+pub stays : (s piece bytes : List ℕ) (lent areas : Areas) (state answer : List ℕ) → AllBelow 256 bytes → (t : State) → restored_of bytes ≡ Ok t →
+    is_run least_blocks s (config_of lent t) ≡ false → Calls s piece lent bytes areas state answer → state ≡ bytes
 unfolding call_of leaves
-stays s piece bytes lent areas state answer l e n h =
-    let t = (restored_of bytes).state in
-    let c = h ∙ sym (called-saved s piece lent bytes e t (call_of least_blocks s piece (config_of lent t)) refl refl) in
-    ap (λ (x : Answered). x.state) c ∙ rw n (saved-claim.own-form bytes l e).form
+stays s piece bytes lent areas state answer l t e n h =
+    let c = h ∙ sym (called-saved s piece lent bytes t e (call_of least_blocks s piece (config_of lent t)) refl) in
+    ap (λ (x : Answered). x.state) c ∙ rw n (saved-claim.own-form bytes l t e).form

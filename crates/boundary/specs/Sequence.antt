@@ -2,18 +2,19 @@
 -- bytes, as the last call left them. Of an export nothing but its contract is used: these calls are those of `sequence/specs/Sequence.antt`, and what is
 -- claimed of those holds of them.
 -- Assumes nothing: these are definitions.
-use Rattle.std.specs.Prelude.{ℕ, ◌+◌, ◌*◌, ◌<◌, ◌^◌, ◌≡◌, false, List, [], ◌∷◌, ◌++◌, eqb, length, get_or, drop, take, replicate}
+use Rattle.std.specs.Prelude.{ℕ, ◌+◌, ◌*◌, ◌<◌, ◌^◌, ◌≡◌, false, List, [], ◌∷◌, ◌++◌, eqb, length, get_or, drop, take, replicate, Ok}
 use Rattle.text.specs.Below.{AllBelow}
 use Rattle.text.specs.Choice.{pick}
 use Rattle.ranges.specs.Ranges.{least_blocks}
 use Rattle.state.specs.Refusals.{none}
+use Rattle.state.specs.declared.State.{State}
 use Rattle.machine.specs.Pieces.{joined}
 use Rattle.updater.specs.Areas.{Areas}
 use Rattle.updater.specs.Run.{line_steps}
 use Rattle.updater.specs.Calls.{lengths_at, is_run}
 use Rattle.updater.specs.Steps.{Config, config_of}
 use Rattle.updater.specs.declared.Outcome.TheVariants.{Stop}
-use Rattle.saved.specs.Restored.{restored_as, restored_of}
+use Rattle.saved.specs.Restored.{restored_of}
 use Rattle.saved.specs.Saved.{saved_of}
 use Rattle.sequence.specs.Claim.{Holds}
 use Rattle.sequence.specs.Model.{Model, model, model_outcome}
@@ -73,7 +74,7 @@ pub record AcceptedOpening (s : List ℕ) (a : Areas) (state : List ℕ) : Type 
 pub record Follows (s : List ℕ) (p : Config) (q : List ℕ) (qs : List (List ℕ)) (d : Kept) (said : List ℕ) : Type 0 where
   pub areas : d.areas ≡ (all_calls least_blocks s (q ∷ qs) (no_calls p)).config.areas
   pub state : d.state ≡ saved_of (all_calls least_blocks s (q ∷ qs) (no_calls p)).config.state
-  pub read : restored_of d.state ≡ restored_as (all_calls least_blocks s (q ∷ qs) (no_calls p)).config.state
+  pub read : restored_of d.state ≡ Ok (all_calls least_blocks s (q ∷ qs) (no_calls p)).config.state
   pub rest : d.rest ≡ (all_calls least_blocks s (q ∷ qs) (no_calls p)).rest
   pub taken : d.taken ≡ (all_calls least_blocks s (q ∷ qs) (no_calls p)).taken
   pub answer : said ≡ answer_of (last_says least_blocks s q qs (no_calls p)) (last_takes least_blocks s q qs (no_calls p))
@@ -81,8 +82,9 @@ pub record Follows (s : List ℕ) (p : Config) (q : List ℕ) (qs : List (List �
 -- they end as the model does
 pub record EndsAs (s : List ℕ) (a : Areas) (d : Kept) (said : List ℕ) (m : Model) : Type 0 where
   pub areas : d.areas ≡ m.areas
-  pub number : (restored_of d.state).number ≡ none
-  pub state : Holds (lengths_at s a) (restored_of d.state).state m
+  pub left : State
+  pub read : restored_of d.state ≡ Ok left
+  pub state : Holds (lengths_at s a) left m
   pub outcome : outcome_in said ≡ outcome_numbers (model_outcome s m)
   pub taken : d.taken ≡ m.taken
 
@@ -94,18 +96,19 @@ pub record KeptAlike (d e : Kept) (said other : List ℕ) : Type 0 where
 
 -- where storage may stand, of all the new data that much being left: these areas, and these bytes as the stored state (`restart/specs/Restart.antt`)
 pub record Stored (s : List ℕ) (a : Areas) (all left : List ℕ) (areas : Areas) (state : List ℕ) : Type 0 where
-  pub number : (restored_of state).number ≡ none
-  pub stands : Standing s a all left (config_of areas (restored_of state).state)
+  pub held : State
+  pub read : restored_of state ≡ Ok held
+  pub stands : Standing s a all left (config_of areas held)
 
 -- THE CLAIM, of calls through the exports
 pub record ExportClaim : Type 0 where
   -- an answer tells what was said
   pub told : Told
   -- a refusal that is held, and 17, leave the state's bytes
-  pub stays : (s piece bytes : List ℕ) (lent areas : Areas) (state answer : List ℕ) → AllBelow 256 bytes → (restored_of bytes).number ≡ none →
-      is_run least_blocks s (config_of lent (restored_of bytes).state) ≡ false → Calls s piece lent bytes areas state answer → state ≡ bytes
+  pub stays : (s piece bytes : List ℕ) (lent areas : Areas) (state answer : List ℕ) → AllBelow 256 bytes → (t : State) → restored_of bytes ≡ Ok t →
+      is_run least_blocks s (config_of lent t) ≡ false → Calls s piece lent bytes areas state answer → state ≡ bytes
   -- from bytes that are read back as a state, calls are those of the claim
-  pub follows : (s : List ℕ) (p : Config) (state : List ℕ) → restored_of state ≡ restored_as p.state →
+  pub follows : (s : List ℕ) (p : Config) (state : List ℕ) → restored_of state ≡ Ok p.state →
       (q : List ℕ) (qs : List (List ℕ)) {d : Kept} {said : List ℕ} → ExportedCalls s (keeping p.areas state) q qs d said → Follows s p q qs d said
   -- after an accepted opening, whenever the last call did not stop: what the model gives for the pieces joined
   pub agrees : (s : List ℕ) (a : Areas) (state : List ℕ) → AcceptedOpening s a state →
@@ -121,12 +124,12 @@ pub record ExportClaim : Type 0 where
       {d : Kept} {said : List ℕ} → ExportedCalls s (keeping areas state) q qs d said → IsStop said →
       Stored s a all (d.rest ++ later) d.areas d.state
   -- a cut leaves the stored bytes, and of the areas all that the run does not write from there to the next stop or its end
-  pub cut : (s : List ℕ) (a : Areas) {all left : List ℕ} {areas : Areas} {state : List ℕ} → Stored s a all left areas state →
-      (b : Areas) → AreasOutside (writes s left (config_of areas (restored_of state).state)) areas b → Stored s a all left b state
+  pub cut : (s : List ℕ) (a : Areas) {all left : List ℕ} {areas : Areas} {state : List ℕ} → (z : Stored s a all left areas state) →
+      (b : Areas) → AreasOutside (writes s left (config_of areas z.held)) areas b → Stored s a all left b state
   -- what is left is the new data from the stored state's total onward
   pub onward : (s : List ℕ) (a : Areas) (opened : List ℕ) → AcceptedOpening s a opened →
-      {all left : List ℕ} {areas : Areas} {state : List ℕ} → Stored s a all left areas state →
-      length all < 2 ^ 64 → left ≡ drop (restored_of state).state.total all
+      {all left : List ℕ} {areas : Areas} {state : List ℕ} → (z : Stored s a all left areas state) →
+      length all < 2 ^ 64 → left ≡ drop z.held.total all
   -- with it the run ends as it does with all the data from the opening
   pub restarts : (s : List ℕ) (a : Areas) (opened : List ℕ) → AcceptedOpening s a opened →
       {all left : List ℕ} {areas : Areas} {state : List ℕ} → Stored s a all left areas state →

@@ -1,30 +1,24 @@
 -- Document 01, "The list text": which blocks of the image a command writes and reads.
 -- Assumes nothing: these are definitions.
-use Rattle.std.specs.Prelude.{List, [], ℕ}
+use Rattle.std.specs.Prelude.{List, [], ℕ, Option, Some, None}
 use Rattle.ranges.specs.Walk.{blocks_at}
 use Rattle.ranges.specs.declared.RangeSet.{RangeSet}
 use Rattle.command.specs.declared.source.Source.{Source}
 use Rattle.command.specs.declared.source.Source.TheVariants.{Blocks, Stashes, Both}
-use Rattle.command.specs.declared.targets.NewTarget.{NewTarget}
-use Rattle.command.specs.declared.targets.NewTarget.TheVariants as new
 use Rattle.command.specs.declared.Command.{Command}
 use Rattle.command.specs.declared.Command.TheVariants.{Zero, Erase, New, Move, Bsdiff, Stash, Free, Unsupported, Bad}
 
 -- the target that takes new data: that of a `new`
-unfoldable pub new_target : Command → NewTarget
-new_target (Zero set) = new.None
-new_target (Erase set) = new.None
-new_target (New set) = new.Set set
-new_target (Move target n source) = new.None
-new_target (Bsdiff target n source) = new.None
-new_target (Stash set) = new.None
-new_target Free = new.None
-new_target Unsupported = new.None
-new_target (Bad p) = new.None
-
-abbrev pub on_new_target : {A : Type 0} → NewTarget → (RangeSet → A) → A → A
-on_new_target (new.Set set) some none = some set
-on_new_target new.None some none = none
+unfoldable pub new_target : Command → Option RangeSet
+new_target (Zero set) = None
+new_target (Erase set) = None
+new_target (New set) = Some set
+new_target (Move target n source) = None
+new_target (Bsdiff target n source) = None
+new_target (Stash set) = None
+new_target Free = None
+new_target Unsupported = None
+new_target (Bad p) = None
 
 -- the blocks of a command's target, on the line l: those of R; a command without a target has none
 unfoldable pub target_blocks : List ℕ → Command → List ℕ

@@ -2,18 +2,16 @@
 #![tactic(auto)]
 
 ghost use Rattle.std.specs.Prelude.{◌≡◌};
-ghost use Rattle.text.specs.Expected.{on_expected};
-ghost use Rattle.ranges.specs.Ranges.{least_blocks, on_ranges};
-ghost use Rattle.command.specs.declared.Command.TheVariants.{Bad};
-ghost use Rattle.command.specs.Commands.{stash_from, free_from, after_hash, with_set, plain, hashed_line, range_line, command_of};
+ghost use Rattle.ranges.specs.Ranges.{least_blocks};
+ghost use Rattle.command.specs.Commands.{command_read, line_read, with_set, plain, after_hash, hashed_line, range_line, command_of};
 
 use crate::bsdiff::bsdiff_line;
 use crate::field::{read_hash_field, read_last_set};
 use crate::source::Source;
 use crate::sourced::{Purpose, read_target};
 use crate::word::{HashWord, RangeWord, Word, word_fault, word_of};
-use ranges::{RangeSet, Ranges};
-use text::expected::{Expected, read_expected};
+use ranges::RangeSet;
+use text::expected::read_expected;
 use text::hash::HASH_BYTES;
 
 mod bsdiff;
@@ -56,89 +54,93 @@ pub struct Line {
     pub hash: [u8; HASH_BYTES],
 }
 
-fn read_stash(l: &[u8], at: usize) -> Command
-    ensures { result ≡ stash_from least_blocks l.now at }
-{
-    match read_last_set(l, at) {
-        Ranges::Bad(p) => Command::Bad(p),
-        Ranges::Good(set, _) => Command::Stash(set),
-    }
-}
+// What stands for a line's hash where it has none.
+pub(crate) const NO_HASH: [u8; HASH_BYTES] = [0u8; HASH_BYTES];
 
-fn read_free(l: &[u8], at: usize) -> Command
-    ensures { result ≡ free_from l.now at }
-{
-    match read_expected(l, at, b'\n') {
-        Expected::Bad(p) => Command::Bad(p),
-        Expected::Past(_) => Command::Free,
-    }
-}
-
-// What follows the hash, by the word.
-fn after_hash(l: &[u8], word: HashWord, read: Expected) -> Command
-    ensures { result ≡ on_expected read (after_hash least_blocks l.now word) Bad }
+pub(crate) fn command_or_fault(read: Result<Command, usize>) -> Command
+    ensures { result ≡ command_read read }
 {
     match read {
-        Expected::Bad(p) => Command::Bad(p),
-        Expected::Past(at) => match word {
-            HashWord::Move => read_target(l, Purpose::Move, at),
-            HashWord::Stash => read_stash(l, at),
-            HashWord::Free => read_free(l, at),
-        },
+        Ok(command) => command,
+        Err(p) => Command::Bad(p),
     }
 }
 
-fn with_set(word: RangeWord, read: Ranges) -> Command
-    ensures { result ≡ on_ranges read (λ set next. with_set word set) Bad }
-{
-    match read {
-        Ranges::Bad(p) => Command::Bad(p),
-        Ranges::Good(set, _) => match word {
-            RangeWord::Zero => Command::Zero(set),
-            RangeWord::Erase => Command::Erase(set),
-            RangeWord::New => Command::New(set),
-        },
-    }
-}
-
-pub(crate) fn without_hash(command: Command) -> Line
+fn without_hash(command: Command) -> Line
     ensures { result ≡ plain command }
 {
     Line {
         command,
-        hash: [0u8; HASH_BYTES],
+        hash: NO_HASH,
+    }
+}
+
+// What follows the hash, by the word.
+#[tactic(auto, unfolding(crate::specs::Commands::stash_from, crate::specs::Commands::free_from))]
+fn after_hash(l: &[u8], word: HashWord, at: usize) -> Result<Command, usize>
+    ensures { command_read result ≡ after_hash least_blocks l.now word at }
+{
+    match word {
+        HashWord::Move => read_target(l, Purpose::Move, at),
+        HashWord::Stash => {
+            let (set, _) = read_last_set(l, at)?;
+            Ok(Command::Stash(set))
+        }
+        HashWord::Free => {
+            read_expected(l, at, b'\n')?;
+            Ok(Command::Free)
+        }
     }
 }
 
 // `move`, `stash` and `free`: a word, a hash, and what follows it.
-fn hashed_line(l: &[u8], word: HashWord) -> Line
-    ensures { result ≡ hashed_line least_blocks l.now word }
+#[tactic(auto, unfolding(crate::specs::Commands::hashed_line))]
+fn hashed_line(l: &[u8], word: HashWord) -> Result<Line, usize>
+    ensures { line_read result ≡ hashed_line least_blocks l.now word }
 {
-    let h = read_hash_field(l, word.len());
-    let hash = h.bytes;
-    let read = h.read;
-    Line {
-        command: after_hash(l, word, read),
-        hash,
+    let (hash, at) = read_hash_field(l, word.spelling().len())?;
+    let command = command_or_fault(after_hash(l, word, at));
+    Ok(Line { command, hash })
+}
+
+fn with_set(word: RangeWord, set: RangeSet) -> Command
+    ensures { result ≡ with_set word set }
+{
+    match word {
+        RangeWord::Zero => Command::Zero(set),
+        RangeWord::Erase => Command::Erase(set),
+        RangeWord::New => Command::New(set),
     }
 }
 
 // `zero`, `erase` and `new`: a word and a range set.
-fn range_line(l: &[u8], word: RangeWord) -> Line
-    ensures { result ≡ range_line least_blocks l.now word }
+#[tactic(auto, unfolding(crate::specs::Commands::range_line))]
+fn range_line(l: &[u8], word: RangeWord) -> Result<Line, usize>
+    ensures { line_read result ≡ range_line least_blocks l.now word }
 {
-    without_hash(with_set(word, read_last_set(l, word.len())))
+    let (set, _) = read_last_set(l, word.spelling().len())?;
+    Ok(without_hash(with_set(word, set)))
+}
+
+#[tactic(auto, unfolding(crate::specs::Commands::command_of))]
+fn read_line(l: &[u8]) -> Result<Line, usize>
+    ensures { line_read result ≡ command_of least_blocks l.now }
+{
+    match word_of(l) {
+        Word::Ranges(word) => range_line(l, word),
+        Word::Hash(word) => hashed_line(l, word),
+        Word::Bsdiff => bsdiff_line(l),
+        Word::Imgdiff => Ok(without_hash(Command::Unsupported)),
+        Word::Unknown => Err(word_fault(l)),
+    }
 }
 
 // The command of a line that is handed over as its part of the text.
 pub fn read_command(l: &[u8]) -> Line
     ensures { result ≡ command_of least_blocks l.now }
 {
-    match word_of(l) {
-        Word::Ranges(word) => range_line(l, word),
-        Word::Hash(word) => hashed_line(l, word),
-        Word::Bsdiff => bsdiff_line(l),
-        Word::Imgdiff => without_hash(Command::Unsupported),
-        Word::Unknown => without_hash(Command::Bad(word_fault(l))),
+    match read_line(l) {
+        Ok(line) => line,
+        Err(p) => without_hash(Command::Bad(p)),
     }
 }

@@ -6,32 +6,12 @@ use crate::Command;
 use ranges::RangeSet;
 
 // The target of a `new`; other commands have none.
-#[derive(Clone, Copy)]
-pub enum NewTarget {
-    Set(RangeSet),
-    None,
-}
-
-pub fn new_target(command: Command) -> NewTarget
+#[tactic(auto, unfolding(crate::specs::Targets::new_target))]
+pub fn new_target(command: Command) -> Option<RangeSet>
     ensures { result ≡ new_target command }
 {
     match command {
-        Command::Zero(_) => NewTarget::None,
-        Command::Erase(_) => NewTarget::None,
-        Command::New(set) => NewTarget::Set(set),
-        Command::Move {
-            target: _,
-            length: _,
-            source: _,
-        } => NewTarget::None,
-        Command::Bsdiff {
-            target: _,
-            length: _,
-            source: _,
-        } => NewTarget::None,
-        Command::Stash(_) => NewTarget::None,
-        Command::Free => NewTarget::None,
-        Command::Unsupported => NewTarget::None,
-        Command::Bad(_) => NewTarget::None,
+        Command::New(set) => Some(set),
+        _ => None,
     }
 }

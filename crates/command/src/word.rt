@@ -1,6 +1,6 @@
 // The word that a line starts with.
 ghost use Rattle.std.specs.Prelude.{◌≡◌, length, max};
-ghost use Rattle.command.specs.Words.{range_word, hash_word, word_of, shared, word_fault};
+ghost use Rattle.command.specs.Words.{range_word, hash_word, spelling, word_of, shared, word_fault};
 
 use text::word::first_word_is;
 
@@ -30,93 +30,83 @@ pub enum Word {
 }
 
 impl RangeWord {
-    pub(crate) fn len(self) -> usize
-        ensures { result ≡ length (range_word self) }
+    pub(crate) fn spelling(self) -> &'static [u8]
+        ensures { result.now ≡ range_word self }
     {
         match self {
-            RangeWord::Zero => b"zero".len(),
-            RangeWord::Erase => b"erase".len(),
-            RangeWord::New => b"new".len(),
+            RangeWord::Zero => b"zero",
+            RangeWord::Erase => b"erase",
+            RangeWord::New => b"new",
         }
     }
 }
 
 impl HashWord {
-    pub(crate) fn len(self) -> usize
-        ensures { result ≡ length (hash_word self) }
+    pub(crate) fn spelling(self) -> &'static [u8]
+        ensures { result.now ≡ hash_word self }
     {
         match self {
-            HashWord::Move => b"move".len(),
-            HashWord::Stash => b"stash".len(),
-            HashWord::Free => b"free".len(),
+            HashWord::Move => b"move",
+            HashWord::Stash => b"stash",
+            HashWord::Free => b"free",
         }
     }
 }
 
+impl Word {
+    fn spelling(self) -> &'static [u8]
+        ensures { result.now ≡ spelling self }
+    {
+        match self {
+            Word::Ranges(word) => word.spelling(),
+            Word::Hash(word) => word.spelling(),
+            Word::Bsdiff => b"bsdiff",
+            Word::Imgdiff => b"imgdiff",
+            Word::Unknown => b"",
+        }
+    }
+}
+
+// The words that a good line can start with.
+const GOOD_WORDS: [Word; 7] = [
+    Word::Ranges(RangeWord::Zero),
+    Word::Ranges(RangeWord::Erase),
+    Word::Ranges(RangeWord::New),
+    Word::Hash(HashWord::Move),
+    Word::Hash(HashWord::Stash),
+    Word::Hash(HashWord::Free),
+    Word::Bsdiff,
+];
+
 pub(crate) fn word_of(l: &[u8]) -> Word
     ensures { result ≡ word_of l.now }
 {
-    if first_word_is(l, b"zero") {
-        return Word::Ranges(RangeWord::Zero);
-    }
-    if first_word_is(l, b"erase") {
-        return Word::Ranges(RangeWord::Erase);
-    }
-    if first_word_is(l, b"new") {
-        return Word::Ranges(RangeWord::New);
-    }
-    if first_word_is(l, b"move") {
-        return Word::Hash(HashWord::Move);
-    }
-    if first_word_is(l, b"stash") {
-        return Word::Hash(HashWord::Stash);
-    }
-    if first_word_is(l, b"free") {
-        return Word::Hash(HashWord::Free);
-    }
-    if first_word_is(l, b"bsdiff") {
-        return Word::Bsdiff;
+    for word in &GOOD_WORDS {
+        if first_word_is(l, word.spelling()) {
+            return *word;
+        }
     }
     if first_word_is(l, b"imgdiff") {
-        return Word::Imgdiff;
+        Word::Imgdiff
+    } else {
+        Word::Unknown
     }
-    Word::Unknown
-}
-
-fn larger(a: usize, b: usize) -> usize
-    ensures { result ≡ max a b }
-{
-    if a < b {
-        return b;
-    }
-    a
 }
 
 // How many of a line's first bytes are those of a word.
 fn shared_bytes(l: &[u8], word: &[u8]) -> usize
     ensures { result ≡ shared word.now l.now }
 {
-    let mut k = 0;
-    while k < word.len() {
-        if l.len() <= k {
-            return k;
-        }
-        if l[k] != word[k] {
-            return k;
-        }
-        k += 1;
-    }
-    k
+    word.iter().zip(l).take_while(|(c, b)| c == b).count()
 }
 
 // The first byte of a line at which none of the words of good lines could go on.
 pub(crate) fn word_fault(l: &[u8]) -> usize
     ensures { result ≡ word_fault l.now }
 {
-    let after = larger(shared_bytes(l, b"free"), shared_bytes(l, b"bsdiff"));
-    let after = larger(shared_bytes(l, b"stash"), after);
-    let after = larger(shared_bytes(l, b"move"), after);
-    let after = larger(shared_bytes(l, b"new"), after);
-    let after = larger(shared_bytes(l, b"erase"), after);
-    larger(shared_bytes(l, b"zero"), after)
+    let mut most = 0;
+    for word in &GOOD_WORDS {
+        most = most.max(shared_bytes(l, word.spelling()));
+    }
+    most
 }

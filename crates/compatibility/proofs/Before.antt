@@ -10,14 +10,13 @@ use lib.Dec.{leb, ltb}
 use borrow.Author.Tests.{le-leb}
 use Rattle.text.specs.Choice.{pick, both}
 use Rattle.text.specs.Expected.{comma, stands}
-use Rattle.text.specs.Number.{largest, is_digit, then, meets, can_meet, end_of, digits, number_from, number_for, on_number}
+use Rattle.text.specs.Number.{largest, is_digit, then, meets, can_meet, end_of, digits, number_from, number_for}
 use Rattle.text.specs.declared.number.Need.TheVariants as need
-use Rattle.text.specs.declared.number.Number.{Number}
-use Rattle.text.specs.declared.number.Number.TheVariants as number
 use Rattle.text.proofs.NeedLaws.{digit-most}
 use Rattle.ranges.specs.Ranges.{item_at, pair_at}
-use Rattle.ranges.specs.declared.Pair.TheVariants as pair
 use Rattle.compatibility.specs.EmptyRanges.{least_before, PairsAsBefore}
+use Rattle.std.specs.Prelude.{Ok, Err}
+use Rattle.text.specs.Read.{Read, on_read}
 
 -- ---- a number up to the largest is any number
 
@@ -28,9 +27,9 @@ digits-any v i (b ∷ bs) e = go (is_digit b) (ltb 0 v) (leb (then v b) largest)
   where
     go : (d p t : Bool) → leb (then v b) largest ≡ t →
         (leb (then v b) largest ≡ true → digits (need.AtMost largest) (then v b) (suc i) bs ≡ digits need.Any (then v b) (suc i) bs) →
-        pick d (pick (both p (both t t)) (digits (need.AtMost largest) (then v b) (suc i) bs) (number.Bad i))
-        (pick (leb v largest) (number.Good v i) (number.Bad i))
-        ≡ pick d (pick (both p (both t true)) (digits need.Any (then v b) (suc i) bs) (number.Bad i)) (number.Good v i)
+        pick d (pick (both p (both t t)) (digits (need.AtMost largest) (then v b) (suc i) bs) (Err i))
+        (pick (leb v largest) (Ok (v, i)) (Err i))
+        ≡ pick d (pick (both p (both t true)) (digits need.Any (then v b) (suc i) bs) (Err i)) (Ok (v, i))
     go true true true f rest = rest f
     go true true false f rest = refl
     go true false t f rest = refl
@@ -41,8 +40,8 @@ unfolding number_for number_from can_meet
 number-any s at = go (drop at s)
   where
     digit : (b : ℕ) (bs : List ℕ) (d : Bool) → is_digit b ≡ d →
-        pick (both d (leb (b - 48) largest)) (digits (need.AtMost largest) (b - 48) (suc at) bs) (number.Bad at)
-        ≡ pick (both d true) (digits need.Any (b - 48) (suc at) bs) (number.Bad at)
+        pick (both d (leb (b - 48) largest)) (digits (need.AtMost largest) (b - 48) (suc at) bs) (Err at)
+        ≡ pick (both d true) (digits need.Any (b - 48) (suc at) bs) (Err at)
     digit b bs true e =
         let l : leb (b - 48) largest ≡ true = le-leb (b - 48) largest (omega (arith, digit-most b e)) in
         rw l (digits-any (b - 48) (suc at) bs l)
@@ -54,7 +53,7 @@ number-any s at = go (drop at s)
 
 item_any : (s : List ℕ) (at : ℕ) → item_at (need.AtMost largest) s at ≡ item_at need.Any s at
 unfolding item_at
-item_any s at = ap (λ (n : Number). pick (stands s at comma) n (number.Bad at)) (number-any s (at + 1))
+item_any s at = ap (λ (n : Read ℕ). pick (stands s at comma) n (Err at)) (number-any s (at + 1))
 
 -- ---- a pair
 
@@ -62,10 +61,10 @@ pub pair_before_lem : PairsAsBefore
 unfolding pair_at
 pair_before_lem s at = rw (item_any s at) (go (item_at need.Any s at))
   where
-    go : (n : Number) →
-        on_number n (λ start i. on_number (item_at (need.AtLeast (start + least_before)) s i) (pair.Good start) pair.Bad) pair.Bad
-        ≡ on_number n (λ start i. on_number (item_at (need.AtLeast start) s i) (pair.Good start) pair.Bad) pair.Bad
-    go (number.Good start i) =
+    go : (n : Read ℕ) →
+        ◌≡◌ {A = Read (ℕ × ℕ)} (on_read n (λ start i. on_read (item_at (need.AtLeast (start + least_before)) s i) (λ end next. Ok ((start, end), next)) Err) Err)
+        (on_read n (λ start i. on_read (item_at (need.AtLeast start) s i) (λ end next. Ok ((start, end), next)) Err) Err)
+    go (Ok (start, i)) =
         let e : start + least_before ≡ start = omega arith in
-        ap (λ (low : ℕ). on_number (item_at (need.AtLeast low) s i) (pair.Good start) pair.Bad) e
-    go (number.Bad p) = refl
+        ap (λ (low : ℕ). on_read {B = Read (ℕ × ℕ)} (item_at (need.AtLeast low) s i) (λ end next. Ok ((start, end), next)) Err) e
+    go (Err p) = refl

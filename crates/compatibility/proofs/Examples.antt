@@ -10,7 +10,7 @@ use Prim.Native.String.{String, [] as []ˢ, ◌∷◌ as ◌∷ˢ◌}
 use lib.Dec.{eqb}
 use Rattle.text.specs.Choice.{pick}
 use Rattle.text.specs.Expected.{expected_at}
-use Rattle.text.specs.Hash.{digit_of, digit_at, octet_at, octets_at, hash_of, hash_at}
+use Rattle.text.specs.Hash.{digit_of, digit_at, octet_at, octets_at, hash_at}
 use Rattle.text.specs.Line.{line_of, line_at, lfs_in, line_number}
 use Rattle.text.specs.Number.{meets, reaches, can_meet, end_of, digits, number_from, number_for}
 use Rattle.text.specs.Word.{bytes, is_first_word}
@@ -94,7 +94,7 @@ lines =
     ∷ []
 
 lines-found : found lines ≡ expected lines
-unfolding meets reaches can_meet end_of digits number_from number_for expected_at digit_of digit_at octet_at octets_at hash_of hash_at is_first_word
+unfolding meets reaches can_meet end_of digits number_from number_for expected_at digit_of digit_at octet_at octets_at hash_at is_first_word
     item_at pair_at pairs_at set_at summary ranges_at word_in shared shared_most number_field hash_field set_field last_set part_end places_from part_at
     parts_in parts_at parts_field uses_in uses_at after_dash with_places after_blocks source_from source_field length_from target_from stash_from free_from range_line
     hashed_line digest_from patched_line length_line bsdiff_line command_of pairs_of ranges_of
@@ -168,7 +168,7 @@ ready =
     (state_of empty_table (record { line = 5; at = 8; into = 0; total = 0; ready = 1; stretches = 0 }) no_refusal (lengths_of moving 0 0 0 0 0))
 
 stopped-before : (says least_before moving [] ready ≡ outcome.Stop) × (says least_blocks moving [] ready ≡ outcome.Refused (refusing 17 0))
-unfolding meets reaches can_meet end_of digits number_from number_for expected_at digit_of digit_at octet_at octets_at hash_of hash_at is_first_word item_at pair_at pairs_at
+unfolding meets reaches can_meet end_of digits number_from number_for expected_at digit_of digit_at octet_at octets_at hash_at is_first_word item_at pair_at pairs_at
     set_at size_of sets.end_of summary ranges_at word_in shared shared_most number_field hash_field set_field last_set after_blocks source_from source_field length_from
     target_from hashed_line command_of fault_of fault_byte fills line_of line_at lfs_in line_number source_past source_over uses_by some_missing source_differs places_by some_misplaced
     sourced_refusal move_refusal refusal_for refusal_of header_line_at header_of are_areas start_refusal entries held_in held_twice holds_empty blocks_held

@@ -8,22 +8,15 @@ use native.Mathlib.Omega.{arith}
 use mathlib.Core.List.{List}
 use lib.ListN.{length}
 use Rattle.text.specs.Choice.{either}
-use Rattle.text.specs.Expected.{expected_at, on_expected, dash, space, lf}
+use Rattle.text.specs.Expected.{expected_at, dash, space, lf}
 use Rattle.text.specs.Hash.{no_hash}
-use Rattle.text.specs.declared.expected.Expected.{Expected}
-use Rattle.text.specs.declared.expected.Expected.TheVariants as expected
-use Rattle.text.specs.Number.{on_number}
-use Rattle.text.specs.declared.number.Number.{Number}
-use Rattle.text.specs.declared.number.Number.TheVariants as number
 use Rattle.text.proofs.ChoiceLaws.{either_is}
-use Rattle.ranges.specs.Ranges.{least_blocks, ranges_at, on_ranges}
+use Rattle.ranges.specs.Ranges.{least_blocks, ranges_at}
 use Rattle.ranges.specs.declared.RangeSet.{RangeSet}
-use Rattle.ranges.specs.declared.Ranges.{Ranges}
-use Rattle.ranges.specs.declared.Ranges.TheVariants as ranges
 use Rattle.command.specs.Words.{range_word, hash_word, spelling, word_of}
 use Rattle.command.specs.Fields.{number_field, hash_field, set_field, last_set}
-use Rattle.command.specs.Parts.{uses_at, parts_at, parts_field, on_parts}
-use Rattle.command.specs.Commands.{with_set, range_line, after_dash, with_places, after_blocks, source_from, source_field, on_source, command_for, length_from, target_from, stash_from, free_from, after_hash, hashed_line, digest_from, patched_line, length_line, bsdiff_line, line_by, command_of}
+use Rattle.command.specs.Parts.{uses_at, parts_at, parts_field}
+use Rattle.command.specs.Commands.{with_set, range_line, after_dash, with_places, after_blocks, source_from, source_field, command_for, length_from, target_from, stash_from, free_from, after_hash, hashed_line, digest_from, patched_line, length_line, bsdiff_line, line_by, command_of}
 use Rattle.command.specs.declared.word.RangeWord.{RangeWord}
 use Rattle.command.specs.declared.word.RangeWord.TheVariants as range
 use Rattle.command.specs.declared.word.HashWord.{HashWord}
@@ -34,16 +27,14 @@ use Rattle.command.specs.declared.sourced.Purpose.{Purpose}
 use Rattle.command.specs.declared.sourced.Purpose.TheVariants as purpose
 use Rattle.command.specs.declared.source.Source.{Source}
 use Rattle.command.specs.declared.source.Source.TheVariants.{Blocks, Stashes, Both}
-use Rattle.command.specs.declared.source.SourceRead.{SourceRead}
-use Rattle.command.specs.declared.source.SourceRead.TheVariants as source
-use Rattle.command.specs.declared.parts.PartsRead.{PartsRead}
-use Rattle.command.specs.declared.parts.PartsRead.TheVariants as parts
 use Rattle.command.specs.declared.Command.{Command}
-use Rattle.command.specs.declared.Command.TheVariants.{Zero, Erase, New, Move, Bsdiff, Stash, Free, Bad}
+use Rattle.command.specs.declared.Command.TheVariants.{Stash, Bad}
 use Rattle.command.specs.declared.Line.{Line}
 use Rattle.compatibility.specs.EmptyRanges.{least_before, empty_in_set, empty_in_uses, empty_in_source, empty_in_command, has_empty}
 use Rattle.compatibility.proofs.Sets.{RangesTold, ranges-told}
 use Rattle.compatibility.proofs.Parts.{PartsTold, parts_told}
+use Rattle.std.specs.Prelude.{Result, Ok, Err}
+use Rattle.text.specs.Read.{Read, on_read, on_result}
 
 pub clash : {t : Bool} → t ≡ true → t ≡ false → ⊥
 clash e f = let z : ◌≡◌ {A = ℕ} 0 1 = cc in omega arith
@@ -60,31 +51,31 @@ module _ {A : Type 0} (Ill : A → Type 0) (empty : A → Bool) where
   Told a b = ((a ≡ b) × (empty a ≡ false)) ⊎ (Ill b × Spoilt a)
 
   module _ (bad : ℕ → A) (ill : (p : ℕ) → Ill (bad p)) where
-    told-expected : (x : Expected) (f g : ℕ → A) → ((i : ℕ) → Told (f i) (g i)) → Told (on_expected x f bad) (on_expected x g bad)
-    told-expected (expected.Past i) f g h = h i
-    told-expected (expected.Bad p) f g h = inr (ill p, inl (ill p))
+    told-expected : (x : Result ℕ ℕ) (f g : ℕ → A) → ((i : ℕ) → Told (f i) (g i)) → Told (on_result x f bad) (on_result x g bad)
+    told-expected (Ok i) f g h = h i
+    told-expected (Err p) f g h = inr (ill p, inl (ill p))
 
-    told-number : (x : Number) (f g : ℕ → ℕ → A) → ((v i : ℕ) → Told (f v i) (g v i)) → Told (on_number x f bad) (on_number x g bad)
-    told-number (number.Good v i) f g h = h v i
-    told-number (number.Bad p) f g h = inr (ill p, inl (ill p))
+    told-read : {B : Type 0} (x : Read B) (f g : B → ℕ → A) → ((v : B) (i : ℕ) → Told (f v i) (g v i)) → Told (on_read x f bad) (on_read x g bad)
+    told-read (Ok (v, i)) f g h = h v i
+    told-read (Err p) f g h = inr (ill p, inl (ill p))
 
-    spoilt-expected : (x : Expected) (f : ℕ → A) → ((i : ℕ) → Spoilt (f i)) → Spoilt (on_expected x f bad)
-    spoilt-expected (expected.Past i) f h = h i
-    spoilt-expected (expected.Bad p) f h = inl (ill p)
+    spoilt-expected : (x : Result ℕ ℕ) (f : ℕ → A) → ((i : ℕ) → Spoilt (f i)) → Spoilt (on_result x f bad)
+    spoilt-expected (Ok i) f h = h i
+    spoilt-expected (Err p) f h = inl (ill p)
 
-    spoilt-number : (x : Number) (f : ℕ → ℕ → A) → ((v i : ℕ) → Spoilt (f v i)) → Spoilt (on_number x f bad)
-    spoilt-number (number.Good v i) f h = h v i
-    spoilt-number (number.Bad p) f h = inl (ill p)
+    spoilt-read : {B : Type 0} (x : Read B) (f : B → ℕ → A) → ((v : B) (i : ℕ) → Spoilt (f v i)) → Spoilt (on_read x f bad)
+    spoilt-read (Ok (v, i)) f h = h v i
+    spoilt-read (Err p) f h = inl (ill p)
 
     -- a set, and what follows it: with an empty range it spoils the whole
-    told-ranges : (l : List ℕ) (x y : Ranges) (f g : RangeSet → ℕ → A) → RangesTold l x y →
+    told-ranges : (l : List ℕ) (x y : Read RangeSet) (f g : RangeSet → ℕ → A) → RangesTold l x y →
         ((set : RangeSet) (i : ℕ) → empty_in_set l set ≡ false → Told (f set i) (g set i)) →
-        ((set : RangeSet) (i : ℕ) → empty_in_set l set ≡ true → Spoilt (f set i)) → Told (on_ranges x f bad) (on_ranges y g bad)
-    told-ranges l (ranges.Good a n) (ranges.Good b m) f g t h k =
+        ((set : RangeSet) (i : ℕ) → empty_in_set l set ≡ true → Spoilt (f set i)) → Told (on_read x f bad) (on_read y g bad)
+    told-ranges l (Ok (a, n)) (Ok (b, m)) f g t h k =
         subst (λ b. Told (f a n) (g b m)) t.0 (subst (λ m. Told (f a n) (g a m)) t.1 (h a n t.2))
-    told-ranges l (ranges.Good a n) (ranges.Bad p) f g t h k = inr (ill p, k a n t)
-    told-ranges l (ranges.Bad q) (ranges.Good b m) f g t h k = absurd t
-    told-ranges l (ranges.Bad q) (ranges.Bad p) f g t h k = inr (ill p, inl (ill q))
+    told-ranges l (Ok (a, n)) (Err p) f g t h k = inr (ill p, k a n t)
+    told-ranges l (Err q) (Ok (b, m)) f g t h k = absurd t
+    told-ranges l (Err q) (Err p) f g t h k = inr (ill p, inl (ill q))
 
 -- ---- fields
 
@@ -93,76 +84,76 @@ module _ (l : List ℕ) where
   unfolding set_field
   field_told at = go (expected_at l at space)
     where
-      go : (x : Expected) → RangesTold l (on_expected x (ranges_at least_before l) ranges.Bad) (on_expected x (ranges_at least_blocks l) ranges.Bad)
-      go (expected.Past i) = ranges-told l i
-      go (expected.Bad p) = tt
+      go : (x : Result ℕ ℕ) → RangesTold l (on_result x (ranges_at least_before l) Err) (on_result x (ranges_at least_blocks l) Err)
+      go (Ok i) = ranges-told l i
+      go (Err p) = tt
 
   last-told : (at : ℕ) → RangesTold l (last_set least_before l at) (last_set least_blocks l at)
   unfolding last_set
   last-told at = go (set_field least_before l at) (set_field least_blocks l at) (field_told at)
     where
-      end : RangeSet → ℕ → Ranges
-      end set i = on_expected (expected_at l i lf) (ranges.Good set) ranges.Bad
+      end : RangeSet → ℕ → Read RangeSet
+      end set i = on_result (expected_at l i lf) (λ x. Ok (set, x)) Err
 
-      same : (a : RangeSet) (x : Expected) → empty_in_set l a ≡ false →
-          RangesTold l (on_expected x (ranges.Good a) ranges.Bad) (on_expected x (ranges.Good a) ranges.Bad)
-      same a (expected.Past i) e = (refl, refl, e)
-      same a (expected.Bad p) e = tt
+      same : (a : RangeSet) (x : Result ℕ ℕ) → empty_in_set l a ≡ false →
+          RangesTold l (on_result x (λ x. Ok (a, x)) Err) (on_result x (λ x. Ok (a, x)) Err)
+      same a (Ok i) e = (refl, refl, e)
+      same a (Err p) e = tt
 
-      spoilt : (a : RangeSet) (p : ℕ) (x : Expected) → empty_in_set l a ≡ true → RangesTold l (on_expected x (ranges.Good a) ranges.Bad) (ranges.Bad p)
-      spoilt a p (expected.Past i) e = e
-      spoilt a p (expected.Bad q) e = tt
+      spoilt : (a : RangeSet) (p : ℕ) (x : Result ℕ ℕ) → empty_in_set l a ≡ true → RangesTold l (on_result x (λ x. Ok (a, x)) Err) (Err p)
+      spoilt a p (Ok i) e = e
+      spoilt a p (Err q) e = tt
 
-      go : (x y : Ranges) → RangesTold l x y → RangesTold l (on_ranges x end ranges.Bad) (on_ranges y end ranges.Bad)
-      go (ranges.Good a n) (ranges.Good b m) t =
+      go : (x y : Read RangeSet) → RangesTold l x y → RangesTold l (on_read x end Err) (on_read y end Err)
+      go (Ok (a, n)) (Ok (b, m)) t =
           subst (λ b. RangesTold l (end a n) (end b m)) t.0
           (subst (λ m. RangesTold l (end a n) (end a m)) t.1 (same a (expected_at l n lf) t.2))
-      go (ranges.Good a n) (ranges.Bad p) t = spoilt a p (expected_at l n lf) t
-      go (ranges.Bad q) (ranges.Good b m) t = absurd t
-      go (ranges.Bad q) (ranges.Bad p) t = tt
+      go (Ok (a, n)) (Err p) t = spoilt a p (expected_at l n lf) t
+      go (Err q) (Ok (b, m)) t = absurd t
+      go (Err q) (Err p) t = tt
 
   -- ---- sources
 
-  abbrev IllSource : SourceRead → Type 0
-  IllSource (source.Good s) = ⊥
-  IllSource (source.Bad p) = Unit {0}
+  abbrev IllSource : Result Source ℕ → Type 0
+  IllSource (Ok s) = ⊥
+  IllSource (Err p) = Unit {0}
 
-  abbrev empty_source : SourceRead → Bool
-  empty_source (source.Good s) = empty_in_source l s
-  empty_source (source.Bad p) = false
+  abbrev empty_source : Result Source ℕ → Bool
+  empty_source (Ok s) = empty_in_source l s
+  empty_source (Err p) = false
 
-  abbrev SourceTold : SourceRead → SourceRead → Type 0
+  abbrev SourceTold : Result Source ℕ → Result Source ℕ → Type 0
   SourceTold = Told IllSource empty_source
 
-  abbrev SpoiltSource : SourceRead → Type 0
+  abbrev SpoiltSource : Result Source ℕ → Type 0
   SpoiltSource = Spoilt IllSource empty_source
 
   -- Ps, where no set before them has an empty range
   parts_then : (make : ℕ → Source) (at : ℕ) → ((i : ℕ) → empty_in_source l (make i) ≡ empty_in_uses l (uses_at l i)) →
-      SourceTold (on_parts (parts_field least_before l at) (λ first. source.Good (make first)) source.Bad)
-      (on_parts (parts_field least_blocks l at) (λ first. source.Good (make first)) source.Bad)
+      SourceTold (on_result (parts_field least_before l at) (λ first. Ok (make first)) Err)
+      (on_result (parts_field least_blocks l at) (λ first. Ok (make first)) Err)
   unfolding parts_field
   parts_then make at is = go (expected_at l at space)
     where
-      on : PartsRead → SourceRead
-      on x = on_parts x (λ first. source.Good (make first)) source.Bad
+      on : Result ℕ ℕ → Result Source ℕ
+      on x = on_result x (λ first. Ok (make first)) Err
 
-      read : (i : ℕ) (x y : PartsRead) → PartsTold i (empty_in_uses l (uses_at l i)) x y → SourceTold (on x) (on y)
-      read i (parts.Good f) (parts.Good g) t = inl (rw (t.0, t.1), rw t.0 (is i ∙ t.2))
-      read i (parts.Good f) (parts.Bad p) t = inr (tt, inr (rw t.0 (is i ∙ t.1)))
-      read i (parts.Bad q) (parts.Good g) t = absurd t
-      read i (parts.Bad q) (parts.Bad p) t = inr (tt, inl tt)
+      read : (i : ℕ) (x y : Result ℕ ℕ) → PartsTold i (empty_in_uses l (uses_at l i)) x y → SourceTold (on x) (on y)
+      read i (Ok f) (Ok g) t = inl (rw (t.0, t.1), rw t.0 (is i ∙ t.2))
+      read i (Ok f) (Err p) t = inr (tt, inr (rw t.0 (is i ∙ t.1)))
+      read i (Err q) (Ok g) t = absurd t
+      read i (Err q) (Err p) t = inr (tt, inl tt)
 
-      go : (x : Expected) → SourceTold (on (on_expected x (parts_at least_before l) parts.Bad)) (on (on_expected x (parts_at least_blocks l) parts.Bad))
-      go (expected.Past i) = read i (parts_at least_before l i) (parts_at least_blocks l i) (parts_told l i)
-      go (expected.Bad p) = inr (tt, inl tt)
+      go : (x : Result ℕ ℕ) → SourceTold (on (on_result x (parts_at least_before l) Err)) (on (on_result x (parts_at least_blocks l) Err))
+      go (Ok i) = read i (parts_at least_before l i) (parts_at least_blocks l i) (parts_told l i)
+      go (Err p) = inr (tt, inl tt)
 
-  parts_spoilt : (make : ℕ → Source) (x : PartsRead) → ((i : ℕ) → empty_in_source l (make i) ≡ true) →
-      SpoiltSource (on_parts x (λ first. source.Good (make first)) source.Bad)
-  parts_spoilt make (parts.Good f) e = inr (e f)
-  parts_spoilt make (parts.Bad p) e = inl tt
+  parts_spoilt : (make : ℕ → Source) (x : Result ℕ ℕ) → ((i : ℕ) → empty_in_source l (make i) ≡ true) →
+      SpoiltSource (on_result x (λ first. Ok (make first)) Err)
+  parts_spoilt make (Ok f) e = inr (e f)
+  parts_spoilt make (Err p) e = inl tt
 
-  ill_source : (p : ℕ) → IllSource (source.Bad p)
+  ill_source : (p : ℕ) → IllSource (Err p)
   ill_source p = tt
 
   dash-told : (at : ℕ) → SourceTold (after_dash least_before l at) (after_dash least_blocks l at)
@@ -172,7 +163,7 @@ module _ (l : List ℕ) where
   places-told : (set : RangeSet) (at : ℕ) → empty_in_set l set ≡ false → SourceTold (with_places least_before l set at) (with_places least_blocks l set at)
   unfolding with_places empty_in_source
   places-told set at e =
-      told-ranges IllSource empty_source source.Bad ill_source l (set_field least_before l at) (set_field least_blocks l at) _ _ (field_told at)
+      told-ranges IllSource empty_source Err ill_source l (set_field least_before l at) (set_field least_blocks l at) _ _ (field_told at)
       (λ places i f. parts_then (Both set places) i (λ first. rw (e, f)))
       (λ places i f. parts_spoilt (Both set places) (parts_field least_before l i) (λ first. rw (e, f)))
 
@@ -180,45 +171,45 @@ module _ (l : List ℕ) where
   unfolding with_places empty_in_source
   places-spoilt set at e = go (set_field least_before l at)
     where
-      go : (x : Ranges) →
-          SpoiltSource (on_ranges x (λ places i. on_parts (parts_field least_before l i) (λ first. source.Good (Both set places first)) source.Bad) source.Bad)
-      go (ranges.Good places i) = parts_spoilt (Both set places) (parts_field least_before l i) (λ first. rw e)
-      go (ranges.Bad p) = inl tt
+      go : (x : Read RangeSet) →
+          SpoiltSource (on_read x (λ places i. on_result (parts_field least_before l i) (λ first. Ok (Both set places first)) Err) Err)
+      go (Ok (places, i)) = parts_spoilt (Both set places) (parts_field least_before l i) (λ first. rw e)
+      go (Err p) = inl tt
 
   blocks-told : (set : RangeSet) (at : ℕ) → empty_in_set l set ≡ false → SourceTold (after_blocks least_before l set at) (after_blocks least_blocks l set at)
   unfolding after_blocks empty_in_source
   blocks-told set at e = go (expected_at l at lf)
     where
-      go : (x : Expected) →
-          SourceTold (on_expected x (λ next. source.Good (Blocks set)) (λ p. with_places least_before l set at))
-          (on_expected x (λ next. source.Good (Blocks set)) (λ p. with_places least_blocks l set at))
-      go (expected.Past next) = inl (refl, e)
-      go (expected.Bad p) = places-told set at e
+      go : (x : Result ℕ ℕ) →
+          SourceTold (on_result x (λ next. Ok (Blocks set)) (λ p. with_places least_before l set at))
+          (on_result x (λ next. Ok (Blocks set)) (λ p. with_places least_blocks l set at))
+      go (Ok next) = inl (refl, e)
+      go (Err p) = places-told set at e
 
   blocks-spoilt : (set : RangeSet) (at : ℕ) → empty_in_set l set ≡ true → SpoiltSource (after_blocks least_before l set at)
   unfolding after_blocks empty_in_source
   blocks-spoilt set at e = go (expected_at l at lf)
     where
-      go : (x : Expected) → SpoiltSource (on_expected x (λ next. source.Good (Blocks set)) (λ p. with_places least_before l set at))
-      go (expected.Past next) = inr e
-      go (expected.Bad p) = places-spoilt set at e
+      go : (x : Result ℕ ℕ) → SpoiltSource (on_result x (λ next. Ok (Blocks set)) (λ p. with_places least_before l set at))
+      go (Ok next) = inr e
+      go (Err p) = places-spoilt set at e
 
   from_told : (at : ℕ) → SourceTold (source_from least_before l at) (source_from least_blocks l at)
   unfolding source_from
   from_told at = go (expected_at l at dash)
     where
-      go : (x : Expected) →
-          SourceTold (on_expected x (after_dash least_before l) (λ p. on_ranges (ranges_at least_before l at) (after_blocks least_before l) source.Bad))
-          (on_expected x (after_dash least_blocks l) (λ p. on_ranges (ranges_at least_blocks l at) (after_blocks least_blocks l) source.Bad))
-      go (expected.Past i) = dash-told i
-      go (expected.Bad p) =
-          told-ranges IllSource empty_source source.Bad ill_source l (ranges_at least_before l at) (ranges_at least_blocks l at) _ _ (ranges-told l at)
+      go : (x : Result ℕ ℕ) →
+          SourceTold (on_result x (after_dash least_before l) (λ p. on_read (ranges_at least_before l at) (after_blocks least_before l) Err))
+          (on_result x (after_dash least_blocks l) (λ p. on_read (ranges_at least_blocks l at) (after_blocks least_blocks l) Err))
+      go (Ok i) = dash-told i
+      go (Err p) =
+          told-ranges IllSource empty_source Err ill_source l (ranges_at least_before l at) (ranges_at least_blocks l at) _ _ (ranges-told l at)
           blocks-told blocks-spoilt
 
   source_told : (at : ℕ) → SourceTold (source_field least_before l at) (source_field least_blocks l at)
   unfolding source_field
   source_told at =
-      told-expected IllSource empty_source source.Bad ill_source (expected_at l at space) (source_from least_before l) (source_from least_blocks l) from_told
+      told-expected IllSource empty_source Err ill_source (expected_at l at space) (source_from least_before l) (source_from least_blocks l) from_told
 
   -- ---- commands
 
@@ -236,8 +227,8 @@ module _ (l : List ℕ) where
   ill-command p = (p, refl)
 
   -- a last set, in a command that has no other
-  set_then : (make : RangeSet → Command) (x y : Ranges) → ((set : RangeSet) → empty_in_command l (make set) ≡ empty_in_set l set) → RangesTold l x y →
-      CommandTold (on_ranges x (λ set next. make set) Bad) (on_ranges y (λ set next. make set) Bad)
+  set_then : (make : RangeSet → Command) (x y : Read RangeSet) → ((set : RangeSet) → empty_in_command l (make set) ≡ empty_in_set l set) → RangesTold l x y →
+      CommandTold (on_read x (λ set next. make set) Bad) (on_read y (λ set next. make set) Bad)
   set_then make x y is t =
       told-ranges IllCommand (empty_in_command l) Bad ill-command l x y (λ set next. make set) (λ set next. make set) t
       (λ set i e. inl (refl, is set ∙ e)) (λ set i e. inr (is set ∙ e))
@@ -255,34 +246,34 @@ module _ (l : List ℕ) where
   for_empty purpose.Bsdiff target n s = refl
 
   module _ (p : Purpose) (target : RangeSet) (n : ℕ) where
-    on_source_lem : empty_in_set l target ≡ false → (x y : SourceRead) → SourceTold x y →
-        CommandTold (on_source x (command_for p target n) Bad) (on_source y (command_for p target n) Bad)
-    on_source_lem e (source.Good a) (source.Good b) (inl t) =
+    on_source_told : empty_in_set l target ≡ false → (x y : Result Source ℕ) → SourceTold x y →
+        CommandTold (on_result x (command_for p target n) Bad) (on_result y (command_for p target n) Bad)
+    on_source_told e (Ok a) (Ok b) (inl t) =
         let z : a ≡ b = cc in inl (rw z, for_empty p target n a ∙ rw e t.1)
-    on_source_lem e (source.Good a) (source.Good b) (inr t) = absurd t.0
-    on_source_lem e (source.Good a) (source.Bad r) (inl t) = absurd (let z : ◌≡◌ {A = ℕ} 0 1 = cc in omega arith)
-    on_source_lem e (source.Good a) (source.Bad r) (inr (i, inl j)) = absurd j
-    on_source_lem e (source.Good a) (source.Bad r) (inr (i, inr j)) =
+    on_source_told e (Ok a) (Ok b) (inr t) = absurd t.0
+    on_source_told e (Ok a) (Err r) (inl t) = absurd (let z : ◌≡◌ {A = ℕ} 0 1 = cc in omega arith)
+    on_source_told e (Ok a) (Err r) (inr (i, inl j)) = absurd j
+    on_source_told e (Ok a) (Err r) (inr (i, inr j)) =
         inr ((r, refl), inr (for_empty p target n a ∙ either_is (empty_in_set l target) j))
-    on_source_lem e (source.Bad q) (source.Good b) (inl t) = absurd (let z : ◌≡◌ {A = ℕ} 0 1 = cc in omega arith)
-    on_source_lem e (source.Bad q) (source.Good b) (inr t) = absurd t.0
-    on_source_lem e (source.Bad q) (source.Bad r) t = inr ((r, refl), inl (q, refl))
+    on_source_told e (Err q) (Ok b) (inl t) = absurd (let z : ◌≡◌ {A = ℕ} 0 1 = cc in omega arith)
+    on_source_told e (Err q) (Ok b) (inr t) = absurd t.0
+    on_source_told e (Err q) (Err r) t = inr ((r, refl), inl (q, refl))
 
-    on_source-spoilt : empty_in_set l target ≡ true → (x : SourceRead) → SpoiltCommand (on_source x (command_for p target n) Bad)
-    on_source-spoilt e (source.Good a) = inr (for_empty p target n a ∙ rw e)
-    on_source-spoilt e (source.Bad q) = inl (q, refl)
+    on_source-spoilt : empty_in_set l target ≡ true → (x : Result Source ℕ) → SpoiltCommand (on_result x (command_for p target n) Bad)
+    on_source-spoilt e (Ok a) = inr (for_empty p target n a ∙ rw e)
+    on_source-spoilt e (Err q) = inl (q, refl)
 
   length-told : (p : Purpose) (target : RangeSet) (at : ℕ) → empty_in_set l target ≡ false →
       CommandTold (length_from least_before l p target at) (length_from least_blocks l p target at)
   unfolding length_from
   length-told p target at e =
-      told-number IllCommand (empty_in_command l) Bad ill-command (number_field l at) _ _
-      (λ n i. on_source_lem p target n e (source_field least_before l i) (source_field least_blocks l i) (source_told i))
+      told-read IllCommand (empty_in_command l) Bad ill-command (number_field l at) _ _
+      (λ n i. on_source_told p target n e (source_field least_before l i) (source_field least_blocks l i) (source_told i))
 
   length-spoilt : (p : Purpose) (target : RangeSet) (at : ℕ) → empty_in_set l target ≡ true → SpoiltCommand (length_from least_before l p target at)
   unfolding length_from
   length-spoilt p target at e =
-      spoilt-number IllCommand (empty_in_command l) Bad ill-command (number_field l at) _
+      spoilt-read IllCommand (empty_in_command l) Bad ill-command (number_field l at) _
       (λ n i. on_source-spoilt p target n e (source_field least_before l i))
 
   target_told : (p : Purpose) (at : ℕ) → CommandTold (target_from least_before l p at) (target_from least_blocks l p at)
@@ -303,7 +294,7 @@ module _ (l : List ℕ) where
 
   digest_told : (at : ℕ) → CommandTold (digest_from least_before l at) (digest_from least_blocks l at)
   unfolding digest_from
-  digest_told at = told-expected IllCommand (empty_in_command l) Bad ill-command (hash_field l at).read _ _ (target_told purpose.Bsdiff)
+  digest_told at = told-read IllCommand (empty_in_command l) Bad ill-command (hash_field l at) _ _ (λ digest. target_told purpose.Bsdiff)
 
   -- ---- lines
 
@@ -315,26 +306,22 @@ module _ (l : List ℕ) where
   unread : (c : Command) → empty_in_command l c ≡ false → CommandTold c c
   unread c e = inl (refl, e)
 
-  patched-told : (at : ℕ) → LineTold (patched_line least_before l at) (patched_line least_blocks l at)
-  unfolding patched_line
-  patched-told at =
-      record {
-        hash = refl;
-        command = told-expected IllCommand (empty_in_command l) Bad ill-command (hash_field l at).read _ _ digest_told;
-      }
-
   bad-told : (p : ℕ) → CommandTold (Bad p) (Bad p)
   bad-told p = inr ((p, refl), inl (p, refl))
 
-  number-told : (x : Number) (f g : ℕ → ℕ → Line) → ((v i : ℕ) → LineTold (f v i) (g v i)) →
-      LineTold (on_number x f (λ p. record { command = Bad p; hash = no_hash })) (on_number x g (λ p. record { command = Bad p; hash = no_hash }))
-  number-told (number.Good v i) f g h = h v i
-  number-told (number.Bad p) f g h = record { hash = refl; command = bad-told p }
+  read-told : {A : Type 0} (x : Read A) (f g : A → ℕ → Line) → ((v : A) (i : ℕ) → LineTold (f v i) (g v i)) →
+      LineTold (on_read x f (λ p. record { command = Bad p; hash = no_hash })) (on_read x g (λ p. record { command = Bad p; hash = no_hash }))
+  read-told (Ok (v, i)) f g h = h v i
+  read-told (Err p) f g h = record { hash = refl; command = bad-told p }
+
+  patched-told : (at : ℕ) → LineTold (patched_line least_before l at) (patched_line least_blocks l at)
+  unfolding patched_line
+  patched-told at = read-told (hash_field l at) _ _ (λ hash i. record { hash = refl; command = digest_told i })
 
   bsdiff_told : LineTold (bsdiff_line least_before l) (bsdiff_line least_blocks l)
   unfolding bsdiff_line length_line
   bsdiff_told =
-      number-told (number_field l (length (spelling word.Bsdiff))) _ _ (λ start i. number-told (number_field l i) _ _ (λ size. patched-told))
+      read-told (number_field l (length (spelling word.Bsdiff))) _ _ (λ start i. read-told (number_field l i) _ _ (λ size. patched-told))
 
   word-told : (w : Word) → LineTold (line_by least_before l w) (line_by least_blocks l w)
   unfolding range_line hashed_line empty_in_command
@@ -344,11 +331,7 @@ module _ (l : List ℕ) where
         command = set_then (with_set w) (last_set least_before l (length (range_word w))) (last_set least_blocks l (length (range_word w))) (range_empty w)
             (last-told (length (range_word w)));
       }
-  word-told (word.Hash w) =
-      record {
-        hash = refl;
-        command = told-expected IllCommand (empty_in_command l) Bad ill-command (hash_field l (length (hash_word w))).read _ _ (after-told w);
-      }
+  word-told (word.Hash w) = read-told (hash_field l (length (hash_word w))) _ _ (λ hash i. record { hash = refl; command = after-told w i })
   word-told word.Bsdiff = bsdiff_told
   word-told word.Imgdiff = record { hash = refl; command = inl (refl, refl) }
   word-told word.Unknown = record { hash = refl; command = bad-told _ }

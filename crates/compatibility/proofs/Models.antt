@@ -8,27 +8,26 @@ use lib.ListN.{length, take, drop}
 use lib.Dec.{leb, eqb}
 use Rattle.text.specs.Choice.{pick}
 use Rattle.text.specs.Line.{line_at}
+use Rattle.text.specs.Read.{on_option}
 use Rattle.ranges.specs.Ranges.{least_blocks}
 use Rattle.ranges.specs.Walk.{blocks_at}
 use Rattle.ranges.specs.declared.RangeSet.{RangeSet}
 use Rattle.state.specs.Limits.{block_bytes}
 use Rattle.state.specs.Refusals.{none}
 use Rattle.command.specs.Commands.{command_of}
-use Rattle.command.specs.Targets.{new_target, on_new_target}
-use Rattle.command.specs.declared.targets.NewTarget.{NewTarget}
-use Rattle.command.specs.declared.targets.NewTarget.TheVariants as new
+use Rattle.command.specs.Targets.{new_target}
 use Rattle.command.specs.declared.Line.{Line}
 use Rattle.rules.specs.Held.{held_after}
 use Rattle.transfer_list.specs.Header.{header_of}
 use Rattle.transfer_list.specs.Opening.{first_at}
 use Rattle.transfer_list.specs.declared.header.Header.{Header}
-use Rattle.transfer_list.specs.declared.header.HeaderRead.TheVariants.{Good}
 use Rattle.updater.specs.Areas.{Areas}
 use Rattle.updater.specs.Effect.{Effect, unfinished_effect, is_finished, effect}
 use Rattle.sequence.specs.Model.{Model, with_areas, with_answer, line_ends, with_bytes, do_new, do_effect, do_line, run_lines, model_start, model}
 use Rattle.compatibility.specs.EmptyRanges.{least_before, WithoutEmpty}
 use Rattle.compatibility.proofs.Lines.{IllCommand, SameLine, same, ill, line_same}
 use Rattle.compatibility.proofs.Starts.{StartsAt, next-starts, first-starts}
+use Rattle.std.specs.Prelude.{Ok, Option, Some, None}
 
 -- what the lines behind one do, where they do the same from every model that stands there
 module _ (at : ℕ) (next other : Model → List ℕ → Model) (equal : (m : Model) (xs : List ℕ) → m.at ≡ at → next m xs ≡ other m xs) where
@@ -58,11 +57,11 @@ module _ (at : ℕ) (next other : Model → List ℕ → Model) (equal : (m : Mo
     doing_same : (a : Line) → do_line next l a m xs ≡ do_line other l a m xs
     doing_same a = go (new_target a.command)
       where
-        go : (t : NewTarget) →
-            on_new_target t (λ set. do_new next l set m xs) (do_effect next l a m xs (effect l m.stashes a.hash a.command m.areas))
-            ≡ on_new_target t (λ set. do_new other l set m xs) (do_effect other l a m xs (effect l m.stashes a.hash a.command m.areas))
-        go (new.Set set) = new_same set
-        go new.None = effect-same a (effect l m.stashes a.hash a.command m.areas)
+        go : (t : Option RangeSet) →
+            on_option t (λ set. do_new next l set m xs) (do_effect next l a m xs (effect l m.stashes a.hash a.command m.areas))
+            ≡ on_option t (λ set. do_new other l set m xs) (do_effect other l a m xs (effect l m.stashes a.hash a.command m.areas))
+        go (Some set) = new_same set
+        go None = effect-same a (effect l m.stashes a.hash a.command m.areas)
 
 -- an ill formed line does nothing, whatever its fault
 ill-same : (next : Model → List ℕ → Model) (l : List ℕ) (a b : Line) (m : Model) (xs : List ℕ) → IllCommand l a.command → IllCommand l b.command →
@@ -90,7 +89,7 @@ module _ (s : List ℕ) (w : WithoutEmpty s) where
           doing_same (m.at + length (line_at s m.at)) (run_lines least_before n s) (run_lines least_blocks n s) rest (line_at s m.at) m xs refl a
           ∙ ill-same (run_lines least_blocks n s) (line_at s m.at) a b m xs i j
 
-  pub model-same : {h : Header} → header_of s ≡ Good h → (areas : Areas) (joined : List ℕ) →
+  pub model-same : {h : Header} → header_of s ≡ Ok h → (areas : Areas) (joined : List ℕ) →
       model least_before s areas joined ≡ model least_blocks s areas joined
   unfolding model model_start first_at
   model-same e areas joined = lines_same (suc (length s)) (model_start s areas) joined (rw e (first-starts s e))

@@ -31,8 +31,6 @@ use Rattle.transfer_list.specs.Header.{first_line, header_of, start_refusal}
 use Rattle.transfer_list.specs.Opening.{terms_of, counted_blocks, total_refusal, lines_refusal, commands_refusal, open_refusal, accepted_state, refused_state, open_state}
 use Rattle.transfer_list.specs.Faults.{line_start}
 use Rattle.transfer_list.specs.declared.header.Header.{Header}
-use Rattle.transfer_list.specs.declared.header.HeaderRead.{HeaderRead}
-use Rattle.transfer_list.specs.declared.header.HeaderRead.TheVariants.{Good, Bad}
 use Rattle.transfer_list.proofs.HeaderLaws.{start_none}
 use Rattle.transfer_list.proofs.FaultLaws.{line-next, first-start}
 use Rattle.compatibility.specs.EmptyRanges.{least_before, has_empty, WithoutEmpty}
@@ -40,6 +38,8 @@ use Rattle.compatibility.specs.Matching.{MatchingRefusals, MatchingStates}
 use Rattle.compatibility.specs.AsBefore.{FirstEmpty}
 use Rattle.compatibility.proofs.Lines.{clash, IllCommand, SameLine, same, ill, line_same, line-lost, line_kept}
 use Rattle.compatibility.proofs.Starts.{StartsAt, next-starts, first-starts, past_end, starts-later}
+use Rattle.std.specs.Prelude.{Result, Ok, Err}
+use Rattle.transfer_list.specs.declared.header.BadHeader.{BadHeader}
 
 pub matching-refusal : (r : Refusal) → MatchingRefusals r r
 matching-refusal r = record { number = refl; line = refl; byte = λ other. refl }
@@ -244,11 +244,11 @@ module _ (s : List ℕ) (lengths : Lengths) where
   unfolding open_refusal commands_refusal
   open_matching w = go (eqb (start_refusal s lengths).number none) (header_of s) refl
     where
-      go : (t : Bool) (read : HeaderRead) → header_of s ≡ read →
+      go : (t : Bool) (read : Result Header BadHeader) → header_of s ≡ read →
           MatchingRefusals (pick t (commands_refusal least_before s lengths read) (start_refusal s lengths))
           (pick t (commands_refusal least_blocks s lengths read) (start_refusal s lengths))
-      go true (Good h) e = lines-matching s (terms_of lengths h) h (suc (length s)) first_line h.first [] 0 w (first-starts s e)
-      go true (Bad line byte) e = matching-refusal no_refusal
+      go true (Ok h) e = lines-matching s (terms_of lengths h) h (suc (length s)) first_line h.first [] 0 w (first-starts s e)
+      go true (Err bad) e = matching-refusal no_refusal
       go false read e = matching-refusal (start_refusal s lengths)
 
   pub open_state-matching : WithoutEmpty s → MatchingStates (open_state least_before s lengths) (open_state least_blocks s lengths)
@@ -268,7 +268,7 @@ module _ (s : List ℕ) (lengths : Lengths) where
           (pick (eqb n none) (accepted_state s lengths) (refused_state b))) k.number (chosen (eqb a.number none) a b k)
 
   -- an opening that refuses nothing came to its lines
-  came : (least : ℕ) → open_refusal least s lengths ≡ no_refusal → (h : Header) × (header_of s ≡ Good h)
+  came : (least : ℕ) → open_refusal least s lengths ≡ no_refusal → (h : Header) × (header_of s ≡ Ok h)
       × (lines_refusal least (suc (length s)) s (terms_of lengths h) h first_line h.first [] 0 ≡ no_refusal)
       × ((other : ℕ) → open_refusal other s lengths ≡ lines_refusal other (suc (length s)) s (terms_of lengths h) h first_line h.first [] 0)
   unfolding open_refusal commands_refusal
@@ -276,7 +276,7 @@ module _ (s : List ℕ) (lengths : Lengths) where
     where
       go : (t : Bool) → eqb (start_refusal s lengths).number none ≡ t →
           pick t (commands_refusal least s lengths (header_of s)) (start_refusal s lengths) ≡ no_refusal →
-          (h : Header) × (header_of s ≡ Good h)
+          (h : Header) × (header_of s ≡ Ok h)
           × (lines_refusal least (suc (length s)) s (terms_of lengths h) h first_line h.first [] 0 ≡ no_refusal)
           × ((other : ℕ) → open_refusal other s lengths ≡ lines_refusal other (suc (length s)) s (terms_of lengths h) h first_line h.first [] 0)
       go true e o =

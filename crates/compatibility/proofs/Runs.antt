@@ -32,8 +32,6 @@ use Rattle.rules.specs.declared.Terms.{Terms}
 use Rattle.transfer_list.specs.Header.{header_of, start_refusal}
 use Rattle.transfer_list.specs.Opening.{terms_of}
 use Rattle.transfer_list.specs.declared.header.Header.{Header}
-use Rattle.transfer_list.specs.declared.header.HeaderRead.{HeaderRead}
-use Rattle.transfer_list.specs.declared.header.HeaderRead.TheVariants.{Good, Bad}
 use Rattle.possible.specs.Possible.{same_lengths, at_line, can_hold, has_more, can_be_into, can_be_ready, frees_on, can_be_stretched, possible_under, is_possible, terms_for}
 use Rattle.machine.specs.Machine.{Machine}
 use Rattle.updater.specs.Areas.{Areas, with_image}
@@ -52,6 +50,8 @@ use Rattle.compatibility.proofs.Lines.{clash, IllCommand, SameLine, same, ill, l
 use Rattle.compatibility.proofs.Starts.{StartsAt, next-starts, state-starts}
 use Rattle.compatibility.proofs.Machines.{Alike, ends-alike, takes-alike}
 use Rattle.compatibility.proofs.Openings.{matching-refusal, matching_six, matching-state, ill-refused}
+use Rattle.std.specs.Prelude.{Result, Ok, Err}
+use Rattle.transfer_list.specs.declared.header.BadHeader.{BadHeader}
 
 pub matching-config : (p : Config) → MatchingConfigs p p
 matching-config p = record { areas = refl; state = matching-state p.state }
@@ -305,7 +305,7 @@ module _ (s : List ℕ) (w : WithoutEmpty s) where
           (both (can_be_ready least s (terms_of lengths h) t.at (held t) t.ready)
           (can_be_stretched least s t.at (held t) t.stretches)))
 
-      at_line_lem : (h : Header) → header_of s ≡ Good h → (a : Bool) → at_line s h t.line t.at ≡ a → both a (can least_before h) ≡ both a (can least_blocks h)
+      at_line_lem : (h : Header) → header_of s ≡ Ok h → (a : Bool) → at_line s h t.line t.at ≡ a → both a (can least_before h) ≡ both a (can least_blocks h)
       at_line_lem h r true e =
           let x = state-starts s t.line t.at r e in
           rw (
@@ -315,9 +315,9 @@ module _ (s : List ℕ) (w : WithoutEmpty s) where
           )
       at_line_lem h r false e = refl
 
-      under : (read : HeaderRead) → header_of s ≡ read → possible_under least_before s lengths read t ≡ possible_under least_blocks s lengths read t
-      under (Good h) e = at_line_lem h e (at_line s h t.line t.at) refl
-      under (Bad line byte) e = refl
+      under : (read : Result Header BadHeader) → header_of s ≡ read → possible_under least_before s lengths read t ≡ possible_under least_blocks s lengths read t
+      under (Ok h) e = at_line_lem h e (at_line s h t.line t.at) refl
+      under (Err bad) e = refl
 
   possible-starts : (lengths : Lengths) (t : State) → is_possible least_before s lengths t ≡ true → StartsAt s t.at
   unfolding is_possible possible_under
@@ -326,9 +326,9 @@ module _ (s : List ℕ) (w : WithoutEmpty s) where
       let b = both_true (eqb (start_refusal s lengths).number none) _ a.1 in
       under (header_of s) refl b.1
     where
-      under : (read : HeaderRead) → header_of s ≡ read → possible_under least_before s lengths read t ≡ true → StartsAt s t.at
-      under (Good h) r p = state-starts s t.line t.at r (both_true (at_line s h t.line t.at) _ p).0
-      under (Bad line byte) r p = absurd (clash p refl)
+      under : (read : Result Header BadHeader) → header_of s ≡ read → possible_under least_before s lengths read t ≡ true → StartsAt s t.at
+      under (Ok h) r p = state-starts s t.line t.at r (both_true (at_line s h t.line t.at) _ p).0
+      under (Err bad) r p = absurd (clash p refl)
 
   -- ---- a call
 

@@ -19,11 +19,11 @@ use Rattle.command.specs.Commands.{command_of}
 use Rattle.transfer_list.specs.Header.{first_line, header_of}
 use Rattle.transfer_list.specs.Faults.{start_after, line_start}
 use Rattle.transfer_list.specs.declared.header.Header.{Header}
-use Rattle.transfer_list.specs.declared.header.HeaderRead.TheVariants.{Good}
 use Rattle.transfer_list.proofs.FaultLaws.{line-next, first-start}
 use Rattle.possible.specs.Possible.{at_line}
 use Rattle.compatibility.specs.EmptyRanges.{has_empty, empty_in_command, WithoutEmpty}
 use Rattle.compatibility.specs.AsBefore.{FirstEmpty}
+use Rattle.std.specs.Prelude.{Ok}
 
 -- a position is where a command line starts, or past the last
 pub record StartsAt (s : List ℕ) (at : ℕ) : Type 0 where
@@ -35,7 +35,7 @@ pub next-starts : {s : List ℕ} {at : ℕ} → StartsAt s at → StartsAt s (at
 next-starts {s} x =
     record { line = x.line + 1; command = omega (arith, x.command); place = line-next s x.line (omega (arith, x.command)) x.place }
 
-pub first-starts : (s : List ℕ) {h : Header} → header_of s ≡ Good h → StartsAt s h.first
+pub first-starts : (s : List ℕ) {h : Header} → header_of s ≡ Ok h → StartsAt s h.first
 first-starts s e = record { line = first_line; command = omega arith; place = (first-start s e).0 }
 
 -- a line ends at its first LF, so one that starts before a position behind an LF ends there or before
@@ -59,7 +59,7 @@ reach-start (suc n) s from at h o m e x = ⊎_elim
     (bool (ltb from at))
 
 -- a state at the start of a command line
-pub state-starts : (s : List ℕ) {h : Header} (line at : ℕ) → header_of s ≡ Good h → at_line s h line at ≡ true → StartsAt s at
+pub state-starts : (s : List ℕ) {h : Header} (line at : ℕ) → header_of s ≡ Ok h → at_line s h line at ≡ true → StartsAt s at
 unfolding at_line
 state-starts s {h} line at e t =
     let p = both_true (leb h.first at) _ t in

@@ -1,7 +1,7 @@
 -- Document 02, R-7: a list without an empty range answers as before, R-6's byte apart; and which lists no longer open. `least_before` in a
 -- definition is the rule before R-7, `least_blocks` the rule as it is; all other rules are those of today on both sides.
 -- Assumes nothing: these are definitions.
-use Rattle.std.specs.Prelude.{ℕ, ◌≤◌, ◌<◌, ◌≡◌, true, false, ◌⊎◌, List, ◌∷◌}
+use Rattle.std.specs.Prelude.{ℕ, ◌≤◌, ◌<◌, ◌≡◌, true, false, ◌⊎◌, List, ◌∷◌, Ok}
 use Rattle.text.specs.Line.{line_at}
 use Rattle.ranges.specs.Ranges.{least_blocks}
 use Rattle.state.specs.Refusals.{line_form}
@@ -11,7 +11,6 @@ use Rattle.transfer_list.specs.Header.{first_line, header_of}
 use Rattle.transfer_list.specs.Opening.{open_refusal, open_state}
 use Rattle.transfer_list.specs.Faults.{line_start}
 use Rattle.transfer_list.specs.declared.header.Header.{Header}
-use Rattle.transfer_list.specs.declared.header.HeaderRead.TheVariants.{Good}
 use Rattle.updater.specs.Areas.{Areas}
 use Rattle.updater.specs.Steps.{Config}
 use Rattle.updater.specs.Calls.{leaves, takes, stops, says}
@@ -44,7 +43,7 @@ pub record Answers (s : List ℕ) : Type 0 where
   pub opening : (lengths : Lengths) → SameOpening s lengths
   pub call : (piece : List ℕ) (p q : Config) → MatchingConfigs p q → SameCall s piece p q
   pub calls : (fresh : List ℕ) (more : List (List ℕ)) (p q : Config) → MatchingConfigs p q → SameCalls s fresh more p q
-  pub model : {h : Header} → header_of s ≡ Good h → (a : Areas) (joined : List ℕ) → model least_before s a joined ≡ model least_blocks s a joined
+  pub model : {h : Header} → header_of s ≡ Ok h → (a : Areas) (joined : List ℕ) → model least_before s a joined ≡ model least_blocks s a joined
 
 -- THE THEOREM
 abbrev pub AsBefore : Type 0

@@ -1,13 +1,10 @@
 -- Document 02, R-7: lists without an empty range. Said of their lines as they were read before R-7, when an empty range was good.
 -- Assumes nothing: these are definitions.
-use Rattle.std.specs.Prelude.{ℕ, ◌≤◌, ◌≡◌, Bool, false, List, [], ◌∷◌, eqb}
+use Rattle.std.specs.Prelude.{ℕ, ◌≤◌, ◌≡◌, Bool, false, List, [], ◌∷◌, eqb, Ok, Err}
 use Rattle.text.specs.Choice.{either}
 use Rattle.text.specs.Line.{line_at}
-use Rattle.text.specs.Number.{on_number}
 use Rattle.text.specs.declared.number.Need.TheVariants as need
 use Rattle.ranges.specs.Ranges.{Range, item_at, pair_at}
-use Rattle.ranges.specs.declared.Pair.{Pair}
-use Rattle.ranges.specs.declared.Pair.TheVariants as pair
 use Rattle.ranges.specs.Walk.{ranges_of}
 use Rattle.ranges.specs.declared.RangeSet.{RangeSet}
 use Rattle.command.specs.Commands.{command_of}
@@ -18,15 +15,16 @@ use Rattle.command.specs.declared.Command.{Command}
 use Rattle.command.specs.declared.Command.TheVariants.{Zero, Erase, New, Move, Bsdiff, Stash, Free, Unsupported, Bad}
 use Rattle.transfer_list.specs.Header.{first_line}
 use Rattle.transfer_list.specs.Faults.{line_start}
+use Rattle.text.specs.Read.{Read, on_read}
 
 -- before R-7 a range could have no block
 abbrev pub least_before : ℕ
 least_before = 0
 
 -- a pair as it was read then: a start that may be any number, and an end that is not below it
-abbrev pub pair_before : List ℕ → ℕ → Pair
+abbrev pub pair_before : List ℕ → ℕ → Read (ℕ × ℕ)
 pair_before s at =
-    on_number (item_at need.Any s at) (λ start i. on_number (item_at (need.AtLeast start) s i) (pair.Good start) pair.Bad) pair.Bad
+    on_read (item_at need.Any s at) (λ start i. on_read (item_at (need.AtLeast start) s i) (λ x y. Ok ((start, x), y)) Err) Err
 
 -- .. and so it is read with that number, faults and all; the other definitions only hand it on
 abbrev pub PairsAsBefore : Type 0

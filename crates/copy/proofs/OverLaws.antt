@@ -3,8 +3,9 @@
 use mathlib.Core.Path.{◌≡◌, refl, ◌∙◌}
 use mathlib.Core.List.{List, ◌++◌, append_assoc}
 use mathlib.Core.Bool.{Bool, true, false}
-use Prim.Native.Nat.{ℕ, suc, ◌+◌, ◌≤◌, ◌<◌, min}
+use Prim.Native.Nat.{ℕ, ◌+◌, ◌≤◌, ◌<◌, min}
 use native.Mathlib.Nat.{zero-add}
+use native.Mathlib.Numerals.{add-one}
 use native.Mathlib.Omega.{arith}
 use lib.ListN.{length, get_or, set, take, drop, length-append, length-take, length-drop, take-append-drop, drop_of_length-le}
 use lib.Dec.{leb}
@@ -13,17 +14,17 @@ use lib.Seq.{paste-suc, drop-append-le, take_all, take-length, drop-length}
 use Rattle.copy.specs.Over.{over, front}
 
 -- a store takes the copy of the first i bytes to the copy of one more
-pub front-more : (from to : List ℕ) (i : ℕ) → i < length from → i < length to →
-    set (take i from ++ drop i to) i (get_or from i 0) ≡ take (suc i) from ++ drop (suc i) to
-front-more from to i h k = simp zero-add at (paste-suc to 0 from i 0 (omega arith) h)
+pub front_more : (from to : List ℕ) (i : ℕ) → i < length from → i < length to →
+    set (take i from ++ drop i to) i (get_or from i 0) ≡ take (i + 1) from ++ drop (i + 1) to
+front_more from to i h k = rw add-one (simp zero-add at (paste-suc to 0 from i 0 (omega arith) h))
 
 -- bytes for which there is room all go over the front
 pub front_fits : (area bytes : List ℕ) → length bytes ≤ length area → front area bytes ≡ bytes ++ drop (length bytes) area
 front_fits area bytes h = rw (take_all {A = ℕ} (length area) bytes h)
 
 -- the copy of as many bytes as both have is the copy of all of them
-pub front-whole : (area bytes : List ℕ) (i : ℕ) → i ≡ min (length area) (length bytes) → take i bytes ++ drop i area ≡ front area bytes
-front-whole area bytes i e = go (leb (length bytes) (length area)) refl
+pub front_whole : (area bytes : List ℕ) (i : ℕ) → i ≡ min (length area) (length bytes) → take i bytes ++ drop i area ≡ front area bytes
+front_whole area bytes i e = go (leb (length bytes) (length area)) refl
   where
     go : (b : Bool) → leb (length bytes) (length area) ≡ b → take i bytes ++ drop i area ≡ front area bytes
     go true t =

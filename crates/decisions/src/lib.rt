@@ -2,11 +2,13 @@
 #![tactic(auto)]
 
 ghost use Rattle.std.specs.Prelude.{◌≡◌};
+ghost use Rattle.state.specs.Refusals.{number_of, refusal_from, checked_refusal};
+ghost use Rattle.state.specs.States.{refusing};
 ghost use Rattle.decisions.specs.Program.{is_image, size_refusal, patch_length, opened_with, is_stop, calls_on};
 
+use state::State;
 use state::limits::BLOCK_BYTES;
-use state::refusals::{AREA_SIZE, LIST_LENGTH};
-use state::{Refusal, State};
+use state::refusals::{Reason, Refused};
 use updater::Outcome;
 
 pub mod answer;
@@ -26,34 +28,30 @@ pub const PATCH_BYTES: usize = 4096;
 fn is_image(bytes: usize) -> bool
     ensures { result ≡ is_image bytes }
 {
-    if bytes % BLOCK_BYTES != 0 {
-        return false;
-    }
-    bytes <= IMAGE_BYTES
+    bytes % BLOCK_BYTES == 0 && bytes <= IMAGE_BYTES
 }
 
-// The refusal for the lengths of list and image; number 0 for none.
-pub fn size_refusal(list: usize, image: usize) -> Refusal
-    ensures { result ≡ size_refusal list image }
+// What the lengths of list and image are refused for.
+pub fn check_sizes(list: usize, image: usize) -> Result<(), Refused>
+    ensures { checked_refusal result ≡ size_refusal list image }
 {
     let image_fits = is_image(image);
     let list_fits = list <= LIST_BYTES;
     if !image_fits {
-        return Refusal {
-            number: AREA_SIZE,
-            line: 0,
-            byte: 0,
-        };
+        return Err(refused(Reason::AreaSize));
     }
     if !list_fits {
-        return Refusal {
-            number: LIST_LENGTH,
-            line: 0,
-            byte: 0,
-        };
+        return Err(refused(Reason::ListLength));
     }
-    Refusal {
-        number: 0,
+    Ok(())
+}
+
+// Refused with no line.
+fn refused(reason: Reason) -> Refused
+    ensures { refusal_from result ≡ refusing (number_of reason) 0 }
+{
+    Refused {
+        reason,
         line: 0,
         byte: 0,
     }
@@ -63,10 +61,7 @@ pub fn size_refusal(list: usize, image: usize) -> Refusal
 pub fn patch_length(bytes: usize) -> usize
     ensures { result ≡ patch_length bytes }
 {
-    if bytes < PATCH_BYTES {
-        return bytes;
-    }
-    PATCH_BYTES
+    bytes.min(PATCH_BYTES)
 }
 
 // Opens the list over an image and patch data of those lengths and the program's own areas.
@@ -80,22 +75,12 @@ pub fn open_list(list: &[u8], image: usize, patch: usize) -> State
 pub fn is_stop(outcome: Outcome) -> bool
     ensures { result ≡ is_stop outcome }
 {
-    match outcome {
-        Outcome::Stop => true,
-        Outcome::More => false,
-        Outcome::Done => false,
-        Outcome::Refused(_) => false,
-    }
+    matches!(outcome, Outcome::Stop)
 }
 
 // Whether the next piece is read; the last one had n bytes.
 pub fn calls_on(outcome: Outcome, n: usize) -> bool
     ensures { result ≡ calls_on outcome n }
 {
-    match outcome {
-        Outcome::More => n != 0,
-        Outcome::Stop => false,
-        Outcome::Done => false,
-        Outcome::Refused(_) => false,
-    }
+    matches!(outcome, Outcome::More) && n != 0
 }

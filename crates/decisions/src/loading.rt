@@ -13,13 +13,13 @@ pub const TOO_LARGE: usize = IMAGE_BYTES + 1;
 
 // How long an image the file is read over: as the one that was found, else as the header says.
 #[tactic(auto, unfolding(crate::specs::Loading::image_bytes))]
-pub fn image_bytes(file: &[u8], found: bool, image: usize) -> usize
-    ensures { result ≡ image_bytes file.now found image }
+pub fn image_bytes(file: &[u8], found: Option<usize>) -> usize
+    ensures { result ≡ image_bytes file.now found }
 {
     if SPARSE_BYTES < file.len() {
         return TOO_LARGE;
     }
-    if found {
+    if let Some(image) = found {
         return image;
     }
     let blocks = total_blocks(file) as usize;

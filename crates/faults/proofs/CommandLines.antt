@@ -21,7 +21,7 @@ use Rattle.command.specs.declared.word.HashWord.TheVariants as hash
 use Rattle.command.specs.declared.word.Word.{Word}
 use Rattle.command.specs.declared.word.Word.TheVariants as word
 use Rattle.faults.specs.Language.{Language, GoesOn, Finding, fault, Byte, Or}
-use Rattle.faults.specs.Lines.{LastSet, Rest, Bytes, CommandLine}
+use Rattle.faults.specs.Lines.{Rest, Bytes, CommandLine}
 use Rattle.faults.specs.Findings.{finding_at}
 use Rattle.faults.proofs.LanguageLaws.{Reads, Starting, Starts, fault_here_lem, same, same_start, or_later, byte-alive, byte-other, byte_past}
 use Rattle.faults.proofs.Seen.{seen, is_lf}

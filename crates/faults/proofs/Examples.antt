@@ -7,10 +7,11 @@ use mathlib.Core.Path.{◌≡◌, refl}
 use mathlib.Core.List.{List, [], ◌∷◌, ◌++◌}
 use lib.Dec.{eqb}
 use Rattle.text.specs.Choice.{pick}
-use Rattle.text.specs.Expected.{expected_at, on_expected, lf}
-use Rattle.text.specs.Number.{meets, reaches, can_meet, end_of, digits, number_from, number_for, number_at, on_number}
-use Rattle.text.specs.Hash.{digit_of, digit_at, octet_at, octets_at, hash_of, hash_at}
+use Rattle.text.specs.Expected.{expected_at, lf}
+use Rattle.text.specs.Number.{meets, reaches, can_meet, end_of, digits, number_from, number_for, number_at}
+use Rattle.text.specs.Hash.{digit_of, digit_at, octet_at, octets_at, hash_at}
 use Rattle.text.specs.Word.{bytes, is_first_word}
+use Rattle.text.specs.Read.{on_read, on_result}
 use Rattle.ranges.specs.Ranges.{least_blocks, item_at, pair_at, pairs_at, set_at, summary, ranges_at}
 use Rattle.command.specs.Words.{word_in, shared, shared_most}
 use Rattle.command.specs.Fields.{number_field, hash_field, set_field, last_set}
@@ -165,7 +166,7 @@ lines =
     ∷ []
 
 commands-found : (commands sets ≡ expected sets) × (commands lines ≡ expected lines)
-unfolding meets reaches can_meet end_of digits number_from number_for expected_at digit_of digit_at octet_at octets_at hash_of hash_at is_first_word
+unfolding meets reaches can_meet end_of digits number_from number_for expected_at digit_of digit_at octet_at octets_at hash_at is_first_word
     item_at pair_at pairs_at set_at summary ranges_at word_in shared shared_most number_field hash_field set_field last_set part_end places_from part_at
     parts_in parts_at parts_field after_dash with_places after_blocks source_from source_field length_from target_from stash_from free_from range_line
     hashed_line digest_from patched_line length_line bsdiff_line command_of finding_at
@@ -175,7 +176,7 @@ commands-found = (refl, refl)
 
 abbrev header : String → ℕ → Finding
 header text at =
-    on_number (number_at (bytes text) at) (λ v i. on_expected (expected_at (bytes text) i lf) (λ next. good) fault) fault
+    on_read (number_at (bytes text) at) (λ v i. on_result (expected_at (bytes text) i lf) (λ next. good) fault) fault
 
 headers-found :
     (header "" 0 ≡ fault 0)

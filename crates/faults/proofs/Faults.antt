@@ -7,11 +7,11 @@ use Prim.Native.Nat.{ℕ, ◌+◌, ◌≤◌}
 use native.Mathlib.Omega.{arith}
 use mathlib.Core.List.{List, [], ◌∷◌}
 use lib.ListN.{length, drop}
-use Rattle.text.specs.Expected.{expected_at, on_expected, lf}
-use Rattle.text.specs.Number.{number_at, on_number}
+use Rattle.text.specs.Expected.{expected_at, lf}
+use Rattle.text.specs.Number.{number_at}
 use Rattle.text.specs.Line.{line_at}
-use Rattle.ranges.specs.Ranges.{least_blocks, ranges_at, on_ranges}
-use Rattle.ranges.specs.declared.Ranges.TheVariants as ranges
+use Rattle.text.specs.Read.{on_read, on_result}
+use Rattle.ranges.specs.Ranges.{least_blocks, ranges_at}
 use Rattle.command.specs.Commands.{command_of}
 use Rattle.command.specs.declared.Command.{Command}
 use Rattle.command.specs.declared.Command.TheVariants.{Zero, Erase, New, Move, Bsdiff, Stash, Free, Unsupported, Bad}
@@ -23,6 +23,7 @@ use Rattle.faults.proofs.Seen.{seen, is_lf, never, line-seen, line-line, all_see
 use Rattle.faults.proofs.Sets as sets
 use Rattle.faults.proofs.Fields.{Ending, end-apart, end-then, number-then}
 use Rattle.faults.proofs.CommandLines.{line-found}
+use Rattle.std.specs.Prelude.{Err}
 
 -- a text has one first fault at most
 pub fault-one : {L : Language} {i : ℕ} {s : List ℕ} {p q : ℕ} → FirstFault L i s p → FirstFault L i s q → p ≡ q
@@ -68,7 +69,7 @@ fault-within l {p} e =
 
 -- the header line that starts at position `at` of the text
 pub header-found : (s : List ℕ) (at : ℕ) → Found HeaderLine at (line_at s at)
-    (on_number (number_at s at) (λ v i. on_expected (expected_at s i lf) (λ next. good) fault) fault)
+    (on_read (number_at s at) (λ v i. on_result (expected_at s i lf) (λ next. good) fault) fault)
 unfolding line_at HeaderLine
 header-found s at = rw (line-seen (drop at s)) (number-then s end _ end-apart (λ v i h. end-then s end _ (λ next. refl))).found
   where
@@ -78,11 +79,11 @@ header-found s at = rw (line-seen (drop at s)) (number-then s end _ end-apart (�
 -- ---- range sets that stand alone: `RangeSet End` are the texts that are a range set and nothing more
 
 pub set_found : (s : List ℕ) (at : ℕ) →
-    Found (RangeSet End) at (drop at s) (on_ranges (ranges_at least_blocks s at) (λ set next. ended (drop next s) next) fault)
+    Found (RangeSet End) at (drop at s) (on_read (ranges_at least_blocks s at) (λ set next. ended (drop next s) next) fault)
 unfolding End ended
 set_found s at =
-    subst (λ t. Found (RangeSet End) at t (on_ranges (ranges_at least_blocks s at) (λ set next. ended (drop next s) next) fault)) (all_seen (drop at s))
-    (sets.set_found never (λ b n. refl) s at End (λ b t e l. l) (λ r. on_ranges r (λ set next. ended (drop next s) next) fault) (λ p. refl)
+    subst (λ t. Found (RangeSet End) at t (on_read (ranges_at least_blocks s at) (λ set next. ended (drop next s) next) fault)) (all_seen (drop at s))
+    (sets.set_found never (λ b n. refl) s at End (λ b t e l. l) (λ r. on_read r (λ set next. ended (drop next s) next) fault) (λ p. refl)
     (λ set next h. over (drop next s) next) at (omega arith)).found
   where
     over : (t : List ℕ) (next : ℕ) → Reads End next (seen never t) (ended t next)
@@ -90,6 +91,6 @@ set_found s at =
     over (b ∷ t) next = fault_here_lem (seen never (b ∷ t)) ([], tt) (λ u l. l)
 
 -- .. so a fault that the reader of a set reports is the first
-pub set-fault : (s : List ℕ) (at : ℕ) {p : ℕ} → ranges_at least_blocks s at ≡ ranges.Bad p → FirstFault (RangeSet End) at (drop at s) p
+pub set-fault : (s : List ℕ) (at : ℕ) {p : ℕ} → ranges_at least_blocks s at ≡ Err p → FirstFault (RangeSet End) at (drop at s) p
 set-fault s at e =
-    subst (λ r. Found (RangeSet End) at (drop at s) (on_ranges r (λ set next. ended (drop next s) next) fault)) e (set_found s at)
+    subst (λ r. Found (RangeSet End) at (drop at s) (on_read r (λ set next. ended (drop next s) next) fault)) e (set_found s at)

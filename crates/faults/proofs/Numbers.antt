@@ -14,8 +14,6 @@ use Rattle.text.specs.Choice.{pick, both}
 use Rattle.text.specs.Expected.{lf}
 use Rattle.text.specs.Number.{largest, is_digit, then, meets, can_meet, end_of, digits, number_from, number_for}
 use Rattle.text.specs.declared.number.Need.{Need}
-use Rattle.text.specs.declared.number.Number.{Number}
-use Rattle.text.specs.declared.number.Number.TheVariants.{Good, Bad}
 use Rattle.text.proofs.ChoiceLaws.{picks, both_true, both_is}
 use Rattle.text.proofs.NumberLaws.{digit_low}
 use Rattle.text.proofs.NeedLaws.{Written, last, more, digit-most, need-holds}
@@ -23,6 +21,8 @@ use Rattle.faults.specs.Language.{Language, GoesOn, Finding, fault}
 use Rattle.faults.specs.Lines.{Digits, NumberThat}
 use Rattle.faults.proofs.LanguageLaws.{Reads, Starting, starting, fault_here_lem, step, same, same_start}
 use Rattle.faults.proofs.Seen.{seen, OnlyLf}
+use Rattle.std.specs.Prelude.{Ok, Err}
+use Rattle.text.specs.Read.{Read}
 
 pub clash : {t : Bool} → t ≡ true → t ≡ false → ⊥
 clash e f = let z : ◌≡◌ {A = ℕ} 0 1 = cc in omega arith
@@ -99,9 +99,9 @@ drop_tail (c ∷ s) zero b bs e = cc
 drop_tail (c ∷ s) (suc i) b bs e = drop_tail s i b bs e
 
 module _ (stop : ℕ → Bool) (only : OnlyLf stop) (n : Need) (x : Exact n) (K : ℕ → Language)
-    (apart : (w b : ℕ) (t : List ℕ) → is_digit b ≡ true → K w (b ∷ t) → ⊥) (s : List ℕ) (from : ℕ) (f : Number → Finding)
-    (bad : (p : ℕ) → f (Bad p) ≡ fault p)
-    (follows : (w next : ℕ) → from ≤ next → meets n w ≡ true → w ≤ largest → Reads (K w) next (seen stop (drop next s)) (f (Good w next))) where
+    (apart : (w b : ℕ) (t : List ℕ) → is_digit b ≡ true → K w (b ∷ t) → ⊥) (s : List ℕ) (from : ℕ) (f : Read ℕ → Finding)
+    (bad : (p : ℕ) → f (Err p) ≡ fault p)
+    (follows : (w next : ℕ) → from ≤ next → meets n w ≡ true → w ≤ largest → Reads (K w) next (seen stop (drop next s)) (f (Ok (w, next)))) where
   abbrev D : ℕ → Language
   D = Digits (meets n) K
 
@@ -109,7 +109,7 @@ module _ (stop : ℕ → Bool) (only : OnlyLf stop) (n : Need) (x : Exact n) (K 
   alive w e l = (follows w from (omega arith) e l).alive
 
   -- a fault here
-  faults : (L : Language) (i : ℕ) (bs : List ℕ) → GoesOn L [] → Starting bs (λ t. L t → ⊥) → Reads L i bs (f (Bad i))
+  faults : (L : Language) (i : ℕ) (bs : List ℕ) → GoesOn L [] → Starting bs (λ t. L t → ⊥) → Reads L i bs (f (Err i))
   faults L i bs a none = rw (bad i) (fault_here_lem bs a none)
 
   -- the number v ends before t, if it can be so at all
@@ -120,9 +120,9 @@ module _ (stop : ℕ → Bool) (only : OnlyLf stop) (n : Need) (x : Exact n) (K 
       Starting (seen stop bs) (Ends v) → Reads (D v) i (seen stop bs) (f (end_of n v i))
   unfolding end_of
   end_reads v i bs o l c d here =
-      picks (λ r. Reads (D v) i (seen stop bs) (f r)) (meets n v) (Good v i) (Bad i)
+      picks (λ r. Reads (D v) i (seen stop bs) (f r)) (meets n v) (Ok (v, i)) (Err i)
       (λ e. same_start (λ t k. ends (meets n) K v t e k) (starting (Ends v) (λ t. D v t → K v t) (seen stop bs) (λ t h z. (h z).1) here)
-      (subst (λ bs. Reads (K v) i (seen stop bs) (f (Good v i))) (sym d) (follows v i o e l)))
+      (subst (λ bs. Reads (K v) i (seen stop bs) (f (Ok (v, i)))) (sym d) (follows v i o e l)))
       (λ e. faults (D v) i (seen stop bs) (digits-alive n x K alive v l c)
       (starting (Ends v) (λ t. D v t → ⊥) (seen stop bs) (λ t h z. clash (h z).0 e) here))
 
@@ -135,8 +135,8 @@ module _ (stop : ℕ → Bool) (only : OnlyLf stop) (n : Need) (x : Exact n) (K 
   unfolding digits Digits passes
   digits-reads v i [] o l c d = end_reads v i [] o l c d (λ z. z)
   digits-reads v i (b ∷ bs) o l c d =
-      picks (λ r. Reads (D v) i (seen stop (b ∷ bs)) (f r)) (is_digit b) (pick (passes v b) (digits n (then v b) (suc i) bs) (Bad i)) (end_of n v i)
-      (λ digit. picks (λ r. Reads (D v) i (seen stop (b ∷ bs)) (f r)) (passes v b) (digits n (then v b) (suc i) bs) (Bad i)
+      picks (λ r. Reads (D v) i (seen stop (b ∷ bs)) (f r)) (is_digit b) (pick (passes v b) (digits n (then v b) (suc i) bs) (Err i)) (end_of n v i)
+      (λ digit. picks (λ r. Reads (D v) i (seen stop (b ∷ bs)) (f r)) (passes v b) (digits n (then v b) (suc i) bs) (Err i)
       (λ e. goes digit e (λ l c. digits-reads (then v b) (suc i) bs (omega arith) l c (drop_tail s i b bs d)))
       (λ e. faults (D v) i (seen stop (b ∷ bs)) (digits-alive n x K alive v l c) (no_more digit e)))
       (λ e. end_reads v i (b ∷ bs) o l c d (no_digit e))
@@ -166,7 +166,7 @@ module _ (stop : ℕ → Bool) (only : OnlyLf stop) (n : Need) (x : Exact n) (K 
   number-reads i [] o d = faults (NumberThat (meets n) K) i [] (number-alive n x K alive) (λ z. z)
   number-reads i (b ∷ bs) o d =
       picks (λ r. Reads (NumberThat (meets n) K) i (seen stop (b ∷ bs)) (f r)) (both (is_digit b) (can_meet n (b - 48)))
-      (digits n (b - 48) (suc i) bs) (Bad i)
+      (digits n (b - 48) (suc i) bs) (Err i)
       (λ e. goes (both_true (is_digit b) (can_meet n (b - 48)) e).0 (both_true (is_digit b) (can_meet n (b - 48)) e).1)
       (λ e. faults (NumberThat (meets n) K) i (seen stop (b ∷ bs)) (number-alive n x K alive) (no-first e))
     where

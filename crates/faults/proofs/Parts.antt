@@ -11,12 +11,10 @@ use lib.Dec.{ltb}
 use Rattle.text.specs.Expected.{space, lf, comma, colon}
 use Rattle.text.specs.Number.{is_count}
 use Rattle.text.specs.Hash.{hash_bytes}
+use Rattle.text.specs.Read.{on_option, on_result}
 use Rattle.ranges.specs.Ranges.{least_blocks}
-use Rattle.command.specs.Parts.{part_end, places_from, part_at, on_part, parts_in, parts_at, parts_field, on_parts}
-use Rattle.command.specs.declared.parts.PartRead.{PartRead}
-use Rattle.command.specs.declared.parts.PartRead.TheVariants as read
-use Rattle.command.specs.declared.parts.PartsRead.{PartsRead}
-use Rattle.command.specs.declared.parts.PartsRead.TheVariants as parts
+use Rattle.command.specs.Parts.{part_end, places_from, part_at, parts_in, parts_at, parts_field}
+use Rattle.command.specs.declared.parts.Part as parts
 use Rattle.faults.specs.Language.{Language, GoesOn, Finding, good, End, Byte, Or}
 use Rattle.faults.specs.Lines.{NumberThat, any, HexDigit, Octets, Hash, Pair, Pairs, RangeSet, LineEnd, Part, PartsOf, Parts}
 use Rattle.faults.proofs.LanguageLaws.{fault_here_lem, same, byte-alive}
@@ -26,6 +24,7 @@ use Rattle.faults.proofs.Marks.{byte-without}
 use Rattle.faults.proofs.Sets.{Apart, byte-apart, set-alive}
 use Rattle.faults.proofs.Hashes.{octets_alive}
 use Rattle.faults.proofs.Fields.{Ending, end-apart, or_end-then, mark-then, space-then, set_then, hash-then}
+use Rattle.std.specs.Prelude.{Result, Ok, Err}
 
 -- ---- what follows a field can be taken out, and replaced by anything else
 
@@ -128,14 +127,14 @@ parts_some d = parts_split [] d
 -- ---- the readers
 
 module _ (l : List ℕ) {A : Type 0} (e : Ending A) (g : ℕ → A) (first : ℕ) (fine : e.of (g first) ≡ good) where
-  abbrev whole : PartsRead → Finding
-  whole r = e.of (on_parts r g e.bad)
+  abbrev whole : Result ℕ ℕ → Finding
+  whole r = e.of (on_result r g e.bad)
 
-  abbrev after_part : ℕ → Ending PartRead
+  abbrev after_part : ℕ → Ending (Result parts.Part ℕ)
   after_part n =
       record {
-        of = λ r. whole (on_part r (λ places next. parts_in least_blocks n l first next) (λ places. parts.Good first) parts.Bad);
-        bad = read.Bad;
+        of = λ r. whole (on_result r (λ p. on_option p.next (parts_in least_blocks n l first) (Ok first)) Err);
+        bad = Err;
         is = e.is;
       }
 
@@ -146,7 +145,7 @@ module _ (l : List ℕ) {A : Type 0} (e : Ending A) (g : ℕ → A) (first : ℕ
   parts_found (suc n) at h =
       same parts_made parts_split
       (hash-then l (after_part n) _
-      (λ i hi. mark-then l (after_part n) colon _ refl
+      (λ hash i hi. mark-then l (after_part n) colon _ refl
       (set_then l (after_part n) _ after-apart
       (λ places k hk. or_end-then l (after_part n) _ _ (byte-without lf space Parts refl) (λ next. fine)
       (mark-then l (after_part n) space _ refl
@@ -154,8 +153,8 @@ module _ (l : List ℕ) {A : Type 0} (e : Ending A) (g : ℕ → A) (first : ℕ
 
 -- a space and one P or more, to the line's end
 pub parts_field_lem : (l : List ℕ) {A : Type 0} (e : Ending A) {at : ℕ} (g : ℕ → A) → ((first : ℕ) → e.of (g first) ≡ good) →
-    At l (Byte space Parts) at (e.of (on_parts (parts_field least_blocks l at) g e.bad))
+    At l (Byte space Parts) at (e.of (on_result (parts_field least_blocks l at) g e.bad))
 unfolding parts_field parts_at
 parts_field_lem l e g fine =
-    space-then l (record { of = λ r. e.of (on_parts r g e.bad); bad = parts.Bad; is = e.is }) (parts_at least_blocks l)
+    space-then l (record { of = λ r. e.of (on_result r g e.bad); bad = Err; is = e.is }) (parts_at least_blocks l)
     (λ i. parts_found l e g i (fine i) (suc (length l)) i (omega arith))

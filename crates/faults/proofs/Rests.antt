@@ -7,10 +7,11 @@ use native.Mathlib.Omega.{arith}
 use mathlib.Core.List.{List}
 use lib.ListN.{length}
 use Rattle.text.specs.Expected.{space, lf, dash}
+use Rattle.text.specs.Read.{on_result}
 use Rattle.ranges.specs.Ranges.{least_blocks}
 use Rattle.ranges.specs.declared.RangeSet as sets
 use Rattle.command.specs.Words.{spelling}
-use Rattle.command.specs.Commands.{after_dash, with_places, after_blocks, source_from, source_field, on_source, command_for, length_from, target_from}
+use Rattle.command.specs.Commands.{after_dash, with_places, after_blocks, source_from, source_field, command_for, length_from, target_from}
 use Rattle.command.specs.Commands.{plain, with_set, range_line, stash_from, free_from, hashed_line, line_by}
 use Rattle.command.specs.Commands.{digest_from, patched_line, length_line, bsdiff_line}
 use Rattle.command.specs.declared.word.RangeWord.{RangeWord}
@@ -19,8 +20,6 @@ use Rattle.command.specs.declared.word.HashWord.TheVariants as hash
 use Rattle.command.specs.declared.word.Word.{Word}
 use Rattle.command.specs.declared.word.Word.TheVariants as word
 use Rattle.command.specs.declared.source.Source as sources
-use Rattle.command.specs.declared.source.SourceRead.{SourceRead}
-use Rattle.command.specs.declared.source.SourceRead.TheVariants as source
 use Rattle.command.specs.declared.sourced.Purpose.{Purpose}
 use Rattle.command.specs.declared.sourced.Purpose.TheVariants as purpose
 use Rattle.command.specs.declared.Command.{Command}
@@ -35,6 +34,7 @@ use Rattle.faults.proofs.Sets.{Apart, byte-apart, set_begin}
 use Rattle.faults.proofs.Fields.{Ending, end-apart, end-then, or_end-then, or_mark-then, space-then, set_then}
 use Rattle.faults.proofs.Fields.{number_field_lem, set_field_lem, hash_field_lem, last_set_lem}
 use Rattle.faults.proofs.Parts.{parts_field_lem}
+use Rattle.std.specs.Prelude.{Result, Err}
 
 -- ---- a source, in its three forms
 
@@ -46,10 +46,10 @@ after-apart : Apart AfterBlocks
 after-apart b t e = ⊎_elim (end-apart b t e) (byte-apart space (RangeSet (Byte space Parts)) refl b t e)
 
 module _ (l : List ℕ) {A : Type 0} (e : Ending A) (g : sources.Source → A) (fine : (s : sources.Source) → e.of (g s) ≡ good) where
-  abbrev after_source : Ending SourceRead
-  after_source = record { of = λ r. e.of (on_source r g e.bad); bad = source.Bad; is = e.is }
+  abbrev after_source : Ending (Result sources.Source ℕ)
+  after_source = record { of = λ r. e.of (on_result r g e.bad); bad = Err; is = e.is }
 
-  pub source_field_lem : {at : ℕ} → At l (Byte space Source) at (e.of (on_source (source_field least_blocks l at) g e.bad))
+  pub source_field_lem : {at : ℕ} → At l (Byte space Source) at (e.of (on_result (source_field least_blocks l at) g e.bad))
   unfolding source_field source_from after_dash after_blocks with_places Source
   source_field_lem =
       space-then l after_source _
@@ -102,12 +102,12 @@ module _ (l : List ℕ) where
   pub rest-found : (w : Word) → GoodWord w → At l (Rest w) (length (spelling w)) (finding_at 0 (line_by least_blocks l w).command)
   unfolding Rest range_line hashed_line stash_from free_from bsdiff_line length_line patched_line digest_from finding_at
   rest-found (word.Ranges w) a = last_set_lem l command _ (λ set next. range_good w set)
-  rest-found (word.Hash hash.Move) a = hash_field_lem l command _ (sourced-found purpose.Move)
-  rest-found (word.Hash hash.Stash) a = hash_field_lem l command _ (λ i. last_set_lem l command _ (λ set next. refl))
-  rest-found (word.Hash hash.Free) a = hash_field_lem l command _ (λ i. end-then l command _ (λ next. refl))
+  rest-found (word.Hash hash.Move) a = hash_field_lem l line _ (λ hash. sourced-found purpose.Move)
+  rest-found (word.Hash hash.Stash) a = hash_field_lem l line _ (λ hash i. last_set_lem l command _ (λ set next. refl))
+  rest-found (word.Hash hash.Free) a = hash_field_lem l line _ (λ hash i. end-then l command _ (λ next. refl))
   rest-found word.Bsdiff a =
       number_field_lem l line _ (byte-apart space (Number (Hashed (Hashed Sourced))) refl)
       (λ start i. number_field_lem l line _ (byte-apart space (Hash (Hashed Sourced)) refl)
-      (λ size j. hash_field_lem l command _ (λ k. hash_field_lem l command _ (sourced-found purpose.Bsdiff))))
+      (λ size j. hash_field_lem l line _ (λ hash k. hash_field_lem l command _ (λ digest. sourced-found purpose.Bsdiff))))
   rest-found word.Imgdiff a = absurd a
   rest-found word.Unknown a = absurd a

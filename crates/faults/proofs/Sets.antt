@@ -11,17 +11,11 @@ use lib.Dec.{leb}
 use borrow.Author.Tests.{leb-true, le-leb}
 use Rattle.text.specs.Choice.{pick}
 use Rattle.text.specs.Expected.{comma}
-use Rattle.text.specs.Number.{largest, is_digit, meets, on_number}
+use Rattle.text.specs.Number.{largest, is_digit, meets}
 use Rattle.text.specs.declared.number.Need.TheVariants as need
-use Rattle.text.specs.declared.number.Number.{Number}
 use Rattle.text.proofs.NeedLaws.{digit-most}
-use Rattle.ranges.specs.declared.Pair as pairs
-use Rattle.ranges.specs.declared.Pair.TheVariants as pair
 use Rattle.ranges.specs.declared.RangeSet as sets
-use Rattle.ranges.specs.declared.Ranges.{Ranges}
-use Rattle.ranges.specs.declared.Ranges.TheVariants as ranges
-use Rattle.ranges.specs.Ranges.{least_blocks, item_at, pair_at, on_pair, Range, Parsed, ok, follow, pairs_at, set_at, summary, ranges_at}
-use Rattle.ranges.specs.Ranges as read
+use Rattle.ranges.specs.Ranges.{least_blocks, item_at, pair_at, on_pair, Range, follow, pairs_at, set_at, summary, ranges_at}
 use Rattle.faults.specs.Language.{Language, GoesOn, Finding, fault, Byte}
 use Rattle.faults.specs.Lines.{NumberThat, any, Pair, Pairs, RangeSet}
 use Rattle.faults.proofs.LanguageLaws.{Reads, same, byte-alive}
@@ -29,6 +23,8 @@ use Rattle.faults.proofs.Seen.{seen, OnlyLf}
 use Rattle.faults.proofs.Numbers.{clash, written-most, written_of, number-to, number-alive, number-found}
 use Rattle.faults.proofs.Needs.{most_exact, count_exact, least_exact}
 use Rattle.faults.proofs.Marks.{byte-found}
+use Rattle.std.specs.Prelude.{Ok, Err}
+use Rattle.text.specs.Read.{Read, on_read}
 
 -- a language none of whose texts begins with a digit
 abbrev pub Apart : Language → Type 0
@@ -117,15 +113,15 @@ module _ (stop : ℕ → Bool) (only : OnlyLf stop) (s : List ℕ) (from : ℕ) 
   past-comma : {K : Language} {at : ℕ} {r : Finding} → At K at r → Reads K at (pick (stop comma) [] (seen stop (drop at s))) r
   past-comma k = rw (only comma refl) k
 
-  module _ (K : Language) (apart : Apart K) (f : pairs.Pair → Finding) (bad : (p : ℕ) → f (pair.Bad p) ≡ fault p)
-      (follows : (start end next : ℕ) → from ≤ next → At K next (f (pair.Good start end next))) where
+  module _ (K : Language) (apart : Apart K) (f : Read (ℕ × ℕ) → Finding) (bad : (p : ℕ) → f (Err p) ≡ fault p)
+      (follows : (start end next : ℕ) → from ≤ next → At K next (f (Ok ((start, end), next)))) where
     end-found : (start low : ℕ) → low ≤ largest → (i : ℕ) → from ≤ i →
-        At (From K low) i (f (on_number (item_at (need.AtLeast low) s i) (pair.Good start) pair.Bad))
+        At (From K low) i (f (on_read (item_at (need.AtLeast low) s i) (λ x y. Ok ((start, x), y)) Err))
     unfolding item_at meets
     end-found start low l i o =
-        byte-found stop s (λ r. f (on_number r (pair.Good start) pair.Bad)) comma i
+        byte-found stop s (λ r. f (on_read r (λ x y. Ok ((start, x), y)) Err)) comma i
         (past-comma (number-found stop only (need.AtLeast low) (least_exact low l) (λ end. K) (λ w. apart) s from
-        (λ r. f (on_number r (pair.Good start) pair.Bad)) bad (λ end next h e m. follows start end next h) (i + 1) (omega arith)))
+        (λ r. f (on_read r (λ x y. Ok ((start, x), y)) Err)) bad (λ end next h e m. follows start end next h) (i + 1) (omega arith)))
         (bad i)
 
     pair_found : (at : ℕ) → from ≤ at → At (Pair K) at (f (pair_at least_blocks s at))
@@ -139,27 +135,27 @@ module _ (stop : ℕ → Bool) (only : OnlyLf stop) (s : List ℕ) (from : ℕ) 
         (λ start i h e l. end-found start (start + least_blocks) (omega (arith, leb-true start (largest - least_blocks) e)) i h) (at + 1) (omega arith)))
         (bad at))
       where
-        whole : Number → Finding
-        whole r = f (on_number r (λ start i. on_number (item_at (need.AtLeast (start + least_blocks)) s i) (pair.Good start) pair.Bad) pair.Bad)
+        whole : Read ℕ → Finding
+        whole r = f (on_read r (λ start i. on_read (item_at (need.AtLeast (start + least_blocks)) s i) (λ x y. Ok ((start, x), y)) Err) Err)
 
   module _ (K : Language) (apart : Apart K) where
-    pairs-found : (n : ℕ) (f : Parsed → Finding) → ((p : ℕ) → f (read.fault p) ≡ fault p) →
-        ((rs : List Range) (next : ℕ) → from ≤ next → At K next (f (ok rs next))) → (at : ℕ) → from ≤ at → At (Pairs n K) at (f (pairs_at least_blocks n s at))
+    pairs-found : (n : ℕ) (f : Read (List Range) → Finding) → ((p : ℕ) → f (Err p) ≡ fault p) →
+        ((rs : List Range) (next : ℕ) → from ≤ next → At K next (f (Ok (rs, next)))) → (at : ℕ) → from ≤ at → At (Pairs n K) at (f (pairs_at least_blocks n s at))
     unfolding Pairs pairs_at
     pairs-found zero f bad follows at o = follows [] at o
     pairs-found (suc n) f bad follows at o =
         pair_found (Pairs n K) (pairs-apart n K apart)
-        (λ r. f (on_pair r (λ start end next. follow (record { start = start; end = end }) (pairs_at least_blocks n s next)) read.fault)) bad
+        (λ r. f (on_pair r (λ start end next. follow (record { start = start; end = end }) (pairs_at least_blocks n s next)) Err)) bad
         (λ start end next h. pairs-found n (λ q. f (follow (record { start = start; end = end }) q)) bad
         (λ rs. follows (record { start = start; end = end } ∷ rs)) next h)
         at o
 
     -- a range set at a position, and what follows it
-    pub set_found : (f : Ranges → Finding) → ((p : ℕ) → f (ranges.Bad p) ≡ fault p) →
-        ((set : sets.RangeSet) (next : ℕ) → from ≤ next → At K next (f (ranges.Good set next))) →
+    pub set_found : (f : Read sets.RangeSet → Finding) → ((p : ℕ) → f (Err p) ≡ fault p) →
+        ((set : sets.RangeSet) (next : ℕ) → from ≤ next → At K next (f (Ok (set, next)))) →
         (at : ℕ) → from ≤ at → At (RangeSet K) at (f (ranges_at least_blocks s at))
     unfolding ranges_at set_at summary RangeSet meets
     set_found f bad follows at o =
         number-found stop only need.Count count_exact (λ count. Pairs (count / 2) K) (λ count. pairs-apart (count / 2) K apart) s from
-        (λ r. f (summary at (on_number r (λ count i. pairs_at least_blocks (count / 2) s i) read.fault))) bad
+        (λ r. f (summary at (on_read r (λ count i. pairs_at least_blocks (count / 2) s i) Err))) bad
         (λ count next h e l. pairs-found (count / 2) (λ q. f (summary at q)) bad (λ rs. follows _) next h) at o

@@ -1,83 +1,43 @@
 // States that no call gave.
-use records::fields::{field, number, rest, which};
-use state::stashes::hold;
+use records::fields::{field, number};
 use state::{Lengths, Refusal, State};
 use text::hash::read_hash;
 
-fn set(s: State, name: usize, n: usize) -> State {
-    let mut next = s;
+pub(crate) fn set(s: &mut State, name: &[u8], n: usize) {
     match name {
-        0 => next.at = n,
-        1 => next.line = n,
-        2 => next.into = n,
-        3 => next.count = n,
-        4 => next.total = n,
-        5 => next.ready = n,
-        6 => next.stretches = n,
+        b"at" => s.at = n,
+        b"line" => s.line = n,
+        b"into" => s.into = n,
+        b"count" => s.table.count = n,
+        b"total" => s.total = n,
+        b"ready" => s.ready = n,
+        b"stretches" => s.stretches = n,
         _ => {}
     }
-    next
 }
 
-fn hold_one(s: State, line: &[u8]) -> State {
+// A text that is no hash holds a stash of zeros.
+pub(crate) fn hold_one(s: &mut State, line: &[u8]) {
     let read = read_hash(field(line, 1), 0);
-    let hash = read.bytes;
-    let mut hashes = s.hashes;
-    let mut sizes = s.sizes;
-    let count = hold(&mut hashes, &mut sizes, s.count, hash, number(line, 2));
-    let refusal = s.refusal;
-    let lengths = s.lengths;
-    State {
-        hashes,
-        sizes,
-        count,
-        line: s.line,
-        at: s.at,
-        into: s.into,
-        total: s.total,
-        ready: s.ready,
-        stretches: s.stretches,
-        refusal,
-        lengths,
-    }
+    let hash = read.map_or([0; 20], |(hash, _)| hash);
+    s.table.hold(hash, number(line, 2));
 }
 
-fn with_refusal(s: State, line: &[u8]) -> State {
-    let refusal = Refusal {
+pub(crate) fn refusal_in(line: &[u8]) -> Refusal {
+    Refusal {
         number: number(line, 1),
         line: number(line, 2),
         byte: number(line, 3),
-    };
-    let mut next = s;
-    next.refusal = refusal;
-    next
+    }
 }
 
-fn with_lengths(s: State, line: &[u8]) -> State {
-    let lengths = Lengths {
+pub(crate) fn lengths_in(line: &[u8]) -> Lengths {
+    Lengths {
         list: number(line, 1),
         image: number(line, 2),
         stash: number(line, 3),
         work: number(line, 4),
         result: number(line, 5),
         patch: number(line, 6),
-    };
-    let mut next = s;
-    next.lengths = lengths;
-    next
-}
-
-// The state as a line of input alters it.
-pub(crate) fn alter(s: State, line: &[u8]) -> State {
-    match which(line, b"set hold refusal lengths") {
-        0 => set(
-            s,
-            which(rest(line, 1), b"at line into count total ready stretches"),
-            number(line, 2),
-        ),
-        1 => hold_one(s, line),
-        2 => with_refusal(s, line),
-        3 => with_lengths(s, line),
-        _ => s,
     }
 }

@@ -1,50 +1,34 @@
-// Numbers of two, four and eight bytes, the lowest byte first.
+// Numbers of two, four and eight bytes, the lowest byte first. A reader for each width: `from_le_bytes` is no trait's.
 #![tactic(auto)]
 
-ghost use Rattle.std.specs.Prelude.{◌≡◌};
-ghost use Rattle.little_endian.specs.LittleEndian.{two, two_at, four_at, eight_at};
+ghost use Rattle.std.specs.Prelude.{◌≡◌, ◌+◌, ◌≤◌, ◌<◌, length, take, drop};
+ghost use Rattle.std.specs.Option.{MatchOption};
+ghost use Rattle.little_endian.specs.LittleEndian.{two_at, four_at, eight_at};
 
-fn two(low: u8, high: u8) -> u16
-    ensures { result ≡ two low high }
+// The bytes at a position, where they are all there.
+fn bytes_at<const N: usize>(s: &[u8], at: usize) -> Option<[u8; N]>
+    ensures { MatchOption result (length s.now < at + N) (λ bytes. (at + N ≤ length s.now) × (bytes ≡ take N (drop at s.now))) }
 {
-    low as u16 + 256 * (high as u16)
+    s.get(at..)?.first_chunk().copied()
 }
 
 // The number at a position; 0 where its bytes are not all there.
 pub fn read_u16(s: &[u8], at: usize) -> u16
     ensures { result ≡ two_at s.now at }
 {
-    if s.len() < 2 {
-        return 0;
-    }
-    if s.len() - 2 < at {
-        return 0;
-    }
-    two(s[at], s[at + 1])
+    bytes_at(s, at).map_or(0, u16::from_le_bytes)
 }
 
 // The same of four bytes.
 pub fn read_u32(s: &[u8], at: usize) -> u32
     ensures { result ≡ four_at s.now at }
 {
-    if s.len() < 4 {
-        return 0;
-    }
-    if s.len() - 4 < at {
-        return 0;
-    }
-    two(s[at], s[at + 1]) as u32 + 65536 * (two(s[at + 2], s[at + 3]) as u32)
+    bytes_at(s, at).map_or(0, u32::from_le_bytes)
 }
 
 // The same of eight bytes.
 pub fn read_u64(s: &[u8], at: usize) -> u64
     ensures { result ≡ eight_at s.now at }
 {
-    if s.len() < 8 {
-        return 0;
-    }
-    if s.len() - 8 < at {
-        return 0;
-    }
-    read_u32(s, at) as u64 + 4294967296 * (read_u32(s, at + 4) as u64)
+    bytes_at(s, at).map_or(0, u64::from_le_bytes)
 }

@@ -3,22 +3,25 @@
 use Prim.Native.Nat.{ℕ}
 use mathlib.Core.Path.{◌≡◌, refl, sym, ap, ◌∙◌}
 use mathlib.Core.List.{List}
-use borrow.Author.Tests.{eq-eqb, ne_eqb}
 use lib.Dec.{eqb}
 use lib.ListN.{get_or}
+use Rattle.std.specs.Prelude.{Ok, Err}
 use Rattle.text.specs.Choice.{pick}
 use Rattle.ranges.specs.Ranges.{least_blocks}
-use Rattle.state.specs.Refusals.{none}
+use Rattle.state.specs.Refusals.{number_of}
+use Rattle.state.specs.States.{refusing}
+use Rattle.state.specs.declared.Refusal.{Refusal}
 use Rattle.state.specs.declared.State.{State}
+use Rattle.state.specs.declared.refusals.Reason.{Reason}
 use Rattle.updater.specs.Areas.{Areas}
-use Rattle.updater.specs.Calls.{Result, call_of}
+use Rattle.updater.specs.Calls.{CallResult, call_of}
 use Rattle.updater.specs.Steps.{config_of}
 use Rattle.updater.specs.declared.Outcome.{Outcome}
 use Rattle.updater.specs.declared.Outcome.TheVariants.{Done, More, Stop, Refused}
-use Rattle.saved.specs.Restored.{restored_as, restored_of}
+use Rattle.saved.specs.Restored.{restored_of}
 use Rattle.saved.specs.Saved.{refusal_numbers, FormOf}
 use Rattle.saved.proofs.ClaimLaws.{claim}
-use Rattle.muongrabi.specs.Answers.{outcome_number, answer_of, Told, opened_as, opening_of, answered_as, answer_to, not_saved, called_over}
+use Rattle.muongrabi.specs.Answers.{outcome_number, answer_of, Told, opened_as, opening_of, answered_as, answer_to, called_over}
 
 -- the outcome that an answer tells
 back : List ℕ → Outcome
@@ -37,24 +40,25 @@ back-of (Refused refusal) n = refl
 pub told : Told
 told o p n m e = (sym (back-of o n) ∙ (ap back e ∙ back-of p m), ap (λ (x : List ℕ). get_or x 4 0) e)
 
-pub form-read : (b : List ℕ) (s : State) → FormOf b s → restored_of b ≡ restored_as s
+pub form-read : (b : List ℕ) (s : State) → FormOf b s → restored_of b ≡ Ok s
 form-read b s f = rw f.form at (claim.read_back s f.typed)
 
 pub opened-saved : (b answer : List ℕ) (s : State) → FormOf b s → answer ≡ refusal_numbers s.refusal → opened_as b answer ≡ opening_of s
 opened-saved b answer s f e = rw (f.form, form-read b s f, e)
 
-pub answered_saved : (areas : Areas) (b answer : List ℕ) (r : Result) → areas ≡ r.areas → FormOf b r.called.state →
+pub answered_saved : (areas : Areas) (b answer : List ℕ) (r : CallResult) → areas ≡ r.areas → FormOf b r.called.state →
     answer ≡ answer_of r.called.outcome r.called.taken → answered_as areas b answer ≡ answer_to r
 answered_saved areas b answer r a f e = rw (f.form, form-read b r.called.state f, a, e)
 
 module _ (s piece : List ℕ) (areas : Areas) (b : List ℕ) where
   -- a call from a saved form
-  pub called-saved : (restored_of b).number ≡ none → (t : State) (r : Result) → t ≡ (restored_of b).state →
-      r ≡ call_of least_blocks s piece (config_of areas t) → answer_to r ≡ called_over s piece areas b
+  pub called-saved : (t : State) → restored_of b ≡ Ok t → (r : CallResult) → r ≡ call_of least_blocks s piece (config_of areas t) →
+      answer_to r ≡ called_over s piece areas b
   unfolding called_over
-  called-saved e t r i j = rw (j, i, eq-eqb (restored_of b).number none e)
+  called-saved t e r j = rw (j, e)
 
   -- .. and from bytes that are none
-  pub called_unsaved : ((restored_of b).number ≡ none → ⊥) → called_over s piece areas b ≡ not_saved areas b
+  pub called_unsaved : (reason : Reason) → restored_of b ≡ Err reason → (refusal : Refusal) → refusal ≡ refusing (number_of reason) 0 →
+      (answer : List ℕ) → answer ≡ answer_of (Refused refusal) 0 → answered_as areas b answer ≡ called_over s piece areas b
   unfolding called_over
-  called_unsaved n = rw (ne_eqb _ _ n)
+  called_unsaved reason e refusal f answer g = rw (g, f, claim.one_number b reason e, e)

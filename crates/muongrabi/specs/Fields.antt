@@ -1,11 +1,10 @@
 -- What a state holds, in the open, for C and Rust: its two tables, and all its other numbers in the order of its saved form.
 -- Assumes nothing: these are definitions.
-use Rattle.std.specs.Prelude.{ℕ, ◌+◌, ◌≡◌, List, ◌++◌, eqb, length, get_or}
+use Rattle.std.specs.Prelude.{ℕ, ◌+◌, ◌≡◌, List, ◌++◌, length, get_or}
 use Rattle.text.specs.Below.{AllBelow}
-use Rattle.text.specs.Choice.{pick}
+use Rattle.text.specs.Read.{on_result}
 use Rattle.state.specs.Refusals.{none, no_saved_form}
-use Rattle.state.specs.States.{state_with}
-use Rattle.state.specs.declared.Progress.{Progress}
+use Rattle.state.specs.Stashes.{table_at}
 use Rattle.state.specs.declared.State.{State}
 use Rattle.saved.specs.Layout.{progress_count, refusal_count, length_count}
 use Rattle.saved.specs.Restored.{restored_of}
@@ -15,11 +14,11 @@ use Rattle.saved.specs.Saved.{progress_numbers, refusal_numbers, length_numbers,
 abbrev pub numbers_of : State → List ℕ
 numbers_of s = progress_numbers s ++ (refusal_numbers s.refusal ++ length_numbers s.lengths)
 
--- the progress that has these numbers
-abbrev pub progress_with : List ℕ → Progress
-progress_with n =
+-- the state that has these tables and numbers
+abbrev pub state_from : List ℕ → List ℕ → List ℕ → State
+state_from hashes sizes n =
     record {
-      count = get_or n 0 0;
+      table = table_at hashes sizes (get_or n 0 0);
       line = get_or n 1 0;
       at = get_or n 2 0;
       into = get_or n 3 0;
@@ -50,12 +49,12 @@ fields_as number hashes sizes numbers = record { number = number; hashes = hashe
 
 -- the fields of a state, with number 0
 abbrev pub fields_of : State → Fields
-fields_of s = fields_as none s.hashes s.sizes (numbers_of s)
+fields_of s = fields_as none s.table.hashes s.table.sizes (numbers_of s)
 
 -- the fields of the state whose saved form the bytes are; 20 where they are no state's, and the arrays stay
 unfoldable pub fields_over : List ℕ → List ℕ → List ℕ → List ℕ → Fields
 fields_over hashes sizes numbers bytes =
-    pick (eqb (restored_of bytes).number none) (fields_of (restored_of bytes).state) (fields_as no_saved_form hashes sizes numbers)
+    on_result (restored_of bytes) fields_of (λ reason. fields_as no_saved_form hashes sizes numbers)
 
 -- how many numbers a state has besides its tables
 abbrev pub number_count : ℕ
@@ -63,7 +62,7 @@ number_count = progress_count + (refusal_count + length_count)
 
 -- document 02, R-9, by fields: what is saved is read back, and gives the same bytes again
 pub record FieldsClaim : Type 0 where
-  pub saved_read : (hashes sizes numbers b : List ℕ) → length numbers ≡ number_count → FormOf b (state_with hashes sizes (progress_with numbers)) →
+  pub saved_read : (hashes sizes numbers b : List ℕ) → length numbers ≡ number_count → FormOf b (state_from hashes sizes numbers) →
       (h z n : List ℕ) → fields_over h z n b ≡ fields_as none hashes sizes numbers
   pub read-saved : (b h z n : List ℕ) → AllBelow 256 b → (fields_over h z n b).number ≡ none →
-      FormOf b (state_with (fields_over h z n b).hashes (fields_over h z n b).sizes (progress_with (fields_over h z n b).numbers))
+      FormOf b (state_from (fields_over h z n b).hashes (fields_over h z n b).sizes (fields_over h z n b).numbers)

@@ -4,25 +4,25 @@
 
 ghost use Rattle.std.specs.Prelude.{◌≡◌, length};
 ghost use Rattle.sha1_digest.specs.Sha1.{sha1};
-ghost use Rattle.state.specs.States.{state_with};
 ghost use Rattle.transfer_list.specs.Opening.{lengths_of};
 ghost use Rattle.updater.specs.Areas.{areas_of};
 ghost use Rattle.saved.specs.Saved.{FormOf};
 ghost use Rattle.sparse.specs.Loading.{load_refusal, loaded_image};
 ghost use Rattle.muongrabi.specs.Abi.{abi};
 ghost use Rattle.muongrabi.specs.Answers.{answer_of, Opens, Calls, Runs};
-ghost use Rattle.muongrabi.specs.Fields.{progress_with, fields_as, fields_over};
+ghost use Rattle.muongrabi.specs.Fields.{numbers_of, state_from, fields_as, fields_over};
 
-use saved::{SAVED_BYTES, restore_in_place, save_in_place};
+use saved::{SAVED_BYTES, no_state, restore_in_place, save_in_place};
 use sequence::run_pieces;
 use state::limits::{MOST_STASHES, TABLE_BYTES};
-use state::refusals::NO_SAVED_FORM;
-use state::{Lengths, Progress, Refusal, State};
-use updater::{Outcome, call_in_place};
+use state::refusals::Refused;
+use state::stashes::Table;
+use state::{Lengths, Refusal, State};
+use updater::{Outcome, call};
 
 const ABI: usize = 6;
 
-// The outcomes as numbers.
+// The outcomes as numbers, which cross to C.
 const DONE: u64 = 0;
 
 const MORE: u64 = 1;
@@ -57,28 +57,6 @@ fn to_answer(outcome: Outcome, taken: usize) -> [u64; ANSWER_NUMBERS]
     }
 }
 
-// The saved form of a state that was given by value.
-fn save_state(to: &mut [u8; SAVED_BYTES], state: State)
-    ensures { FormOf to.new state }
-{
-    let hashes = state.hashes;
-    let sizes = state.sizes;
-    let refusal = state.refusal;
-    let lengths = state.lengths;
-    let progress = Progress {
-        count: state.count,
-        line: state.line,
-        at: state.at,
-        into: state.into,
-        total: state.total,
-        ready: state.ready,
-        stretches: state.stretches,
-        refusal,
-        lengths,
-    };
-    save_in_place(to, &hashes, &sizes, progress);
-}
-
 // The ABI's number. The name has it too, so that what was built for another one does not link.
 pub fn muongrabi_abi_6() -> usize
     ensures { result ≡ abi }
@@ -107,12 +85,11 @@ pub fn muongrabi_open(
     ensures { Opens list.now (lengths_of list.now image stash work res patch) state.new answer.new }
 {
     let opened = transfer_list::open(list, image, stash, work, res, patch);
-    let refused = opened.refusal;
-    save_state(state, opened);
+    save_in_place(state, &opened);
     *answer = [
-        refused.number as u64,
-        refused.line as u64,
-        refused.byte as u64,
+        opened.refusal.number as u64,
+        opened.refusal.line as u64,
+        opened.refusal.byte as u64,
     ];
 }
 
@@ -131,35 +108,22 @@ pub fn muongrabi_call(
 )
     ensures { Calls list.now piece.now (areas_of image.old stash.old work.old res.old patch.now) state.old (areas_of image.new stash.new work.new res.new patch.now) state.new answer.new }
 {
-    let mut hashes = [0u8; TABLE_BYTES];
-    let mut sizes = [0usize; MOST_STASHES];
-    let restored = restore_in_place(state, &mut hashes, &mut sizes);
-    if restored.number != 0 {
-        let refusal = Refusal {
-            number: NO_SAVED_FORM,
-            line: 0,
-            byte: 0,
-        };
-        *answer = to_answer(Outcome::Refused(refusal), 0);
-        return;
+    let mut kept = no_state();
+    match restore_in_place(state, &mut kept) {
+        Ok(()) => {
+            let called = call(list, image, stash, work, res, patch, piece, &mut kept);
+            save_in_place(state, &kept);
+            *answer = to_answer(called.outcome, called.taken);
+        }
+        Err(reason) => {
+            let refused = Refused {
+                reason,
+                line: 0,
+                byte: 0,
+            };
+            *answer = to_answer(Outcome::Refused(refused.refusal()), 0);
+        }
     }
-    let before = restored.progress;
-    let called = call_in_place(
-        list,
-        image,
-        stash,
-        work,
-        res,
-        patch,
-        piece,
-        &mut hashes,
-        &mut sizes,
-        before,
-    );
-    let last = called.progress;
-    let outcome = called.outcome;
-    save_in_place(state, &hashes, &sizes, last);
-    *answer = to_answer(outcome, called.taken);
 }
 
 // Opens the list and makes the calls: a piece of each given length, cut short where the bytes end, and then one with what is left; after a stop
@@ -179,10 +143,67 @@ pub fn muongrabi_run(
     ensures { Runs list.now bytes.now (areas_of image.old stash.old work.old res.old patch.now) (areas_of image.new stash.new work.new res.new patch.now) state.new answer.new }
 {
     let ran = run_pieces(list, image, stash, work, res, patch, bytes, cuts);
-    let last = ran.state;
-    let outcome = ran.outcome;
-    save_state(state, last);
-    *answer = to_answer(outcome, ran.taken);
+    save_in_place(state, &ran.state);
+    *answer = to_answer(ran.called.outcome, ran.called.taken);
+}
+
+// The state with these tables and numbers.
+fn state_from<'a>(
+    hashes: &'a [u8; TABLE_BYTES],
+    sizes: &'a [usize; MOST_STASHES],
+    numbers: &'a [usize; STATE_NUMBERS],
+) -> State
+    ensures { result ≡ state_from hashes.now sizes.now numbers.now }
+{
+    State {
+        table: Table {
+            hashes: *hashes,
+            sizes: *sizes,
+            count: numbers[0],
+        },
+        line: numbers[1],
+        at: numbers[2],
+        into: numbers[3],
+        total: numbers[4],
+        ready: numbers[5],
+        stretches: numbers[6],
+        refusal: Refusal {
+            number: numbers[7],
+            line: numbers[8],
+            byte: numbers[9],
+        },
+        lengths: Lengths {
+            list: numbers[10],
+            image: numbers[11],
+            stash: numbers[12],
+            work: numbers[13],
+            result: numbers[14],
+            patch: numbers[15],
+        },
+    }
+}
+
+fn numbers_of(state: &State) -> [usize; STATE_NUMBERS]
+    ensures { result ≡ numbers_of state.now }
+{
+    [
+        state.table.count,
+        state.line,
+        state.at,
+        state.into,
+        state.total,
+        state.ready,
+        state.stretches,
+        state.refusal.number,
+        state.refusal.line,
+        state.refusal.byte,
+        state.lengths.list,
+        state.lengths.image,
+        state.lengths.stash,
+        state.lengths.work,
+        state.lengths.result,
+        state.lengths.patch,
+    ]
 }
 
 // The saved form of the state with these tables and numbers.
@@ -192,33 +213,9 @@ pub fn muongrabi_save(
     numbers: &[usize; STATE_NUMBERS],
     out: &mut [u8; SAVED_BYTES],
 )
-    ensures { FormOf out.new (state_with hashes.now sizes.now (progress_with numbers.now)) }
+    ensures { FormOf out.new (state_from hashes.now sizes.now numbers.now) }
 {
-    let refusal = Refusal {
-        number: numbers[7],
-        line: numbers[8],
-        byte: numbers[9],
-    };
-    let lengths = Lengths {
-        list: numbers[10],
-        image: numbers[11],
-        stash: numbers[12],
-        work: numbers[13],
-        result: numbers[14],
-        patch: numbers[15],
-    };
-    let progress = Progress {
-        count: numbers[0],
-        line: numbers[1],
-        at: numbers[2],
-        into: numbers[3],
-        total: numbers[4],
-        ready: numbers[5],
-        stretches: numbers[6],
-        refusal,
-        lengths,
-    };
-    save_in_place(out, hashes, sizes, progress);
+    save_in_place(out, &state_from(hashes, sizes, numbers));
 }
 
 // The tables and numbers of the state whose saved form the bytes are, with number 0; or 20, and nothing is changed.
@@ -230,39 +227,23 @@ pub fn muongrabi_restore(
 ) -> usize
     ensures { fields_as result hashes.new sizes.new numbers.new ≡ fields_over hashes.old sizes.old numbers.old bytes.now }
 {
-    let read = restore_in_place(bytes, hashes, sizes);
-    if read.number != 0 {
-        return NO_SAVED_FORM;
+    let mut state = no_state();
+    if let Err(reason) = restore_in_place(bytes, &mut state) {
+        return reason.number();
     }
-    let progress = read.progress;
-    let refusal = progress.refusal;
-    let lengths = progress.lengths;
-    *numbers = [
-        progress.count,
-        progress.line,
-        progress.at,
-        progress.into,
-        progress.total,
-        progress.ready,
-        progress.stretches,
-        refusal.number,
-        refusal.line,
-        refusal.byte,
-        lengths.list,
-        lengths.image,
-        lengths.stash,
-        lengths.work,
-        lengths.result,
-        lengths.patch,
-    ];
+    *hashes = state.table.hashes;
+    *sizes = state.table.sizes;
+    *numbers = numbers_of(&state);
     0
 }
 
 // Reads a sparse file over an image, and gives the number of the refusal, 0 for none.
-#[tactic(auto, using(sparse::proofs::NumberLaws::load_most))]
 pub fn muongrabi_sparse_load(file: &[u8], image: &mut [u8]) -> u32
     ensures number { result ≡ load_refusal file.now (length image.old) }
     ensures image_after { image.new ≡ loaded_image file.now image.old }
 {
-    sparse::load(file, image) as u32
+    match sparse::load(file, image) {
+        Ok(()) => 0,
+        Err(reason) => reason.number() as u32,
+    }
 }

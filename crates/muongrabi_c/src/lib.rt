@@ -4,14 +4,13 @@
 
 ghost use Rattle.std.specs.Prelude.{◌≡◌, length};
 ghost use Rattle.sha1_digest.specs.Sha1.{sha1};
-ghost use Rattle.state.specs.States.{state_with};
 ghost use Rattle.transfer_list.specs.Opening.{lengths_of};
 ghost use Rattle.updater.specs.Areas.{areas_of};
 ghost use Rattle.saved.specs.Saved.{FormOf};
 ghost use Rattle.sparse.specs.Loading.{load_refusal, loaded_image};
 ghost use Rattle.muongrabi.specs.Abi.{abi};
 ghost use Rattle.muongrabi.specs.Answers.{Opens, Calls, Runs};
-ghost use Rattle.muongrabi.specs.Fields.{progress_with, fields_as, fields_over};
+ghost use Rattle.muongrabi.specs.Fields.{state_from, fields_as, fields_over};
 
 use muongrabi::{ANSWER_NUMBERS, OPENING_NUMBERS, STATE_NUMBERS};
 use saved::SAVED_BYTES;
@@ -99,7 +98,7 @@ pub extern "C" fn muongrabi_save(
     numbers: &[usize; STATE_NUMBERS],
     out: &mut [u8; SAVED_BYTES],
 )
-    ensures { FormOf out.new (state_with hashes.now sizes.now (progress_with numbers.now)) }
+    ensures { FormOf out.new (state_from hashes.now sizes.now numbers.now) }
 {
     muongrabi::muongrabi_save(hashes, sizes, numbers, out);
 }

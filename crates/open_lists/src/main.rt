@@ -9,92 +9,87 @@
 //   open                                   opens it
 #![tactic(auto)]
 
-use records::buffers::{part, put};
-use records::fields::{number, rest, which};
-use records::streams::{INPUT_ROOM, read_full, say, say_number};
+use records::buffers::put;
+use records::fields::{field, number, rest};
+use records::streams::{read_input, say};
 use state::Lengths;
+use std::alloc::AllocError;
 
 // One byte more than a list may have.
 const LIST_ROOM: usize = 4194305;
 
-fn say_opened(out: &impl Print, list: &[u8], l: Lengths) {
-    let opened = transfer_list::open(list, l.image, l.stash, l.work, l.result, l.patch);
-    let refusal = opened.refusal;
-    if refusal.number == 0 {
-        say(out, b"accepted\n");
-        return;
-    }
-    say(out, b"refused ");
-    say_number(out, refusal.number);
-    say(out, b" ");
-    say_number(out, refusal.line);
-    say(out, b" ");
-    say_number(out, refusal.byte);
-    say(out, b"\n");
+// What is opened: a list, over areas and patch data of these lengths.
+#[derive(Drop)]
+struct Case {
+    list: Vec<u8>,
+    lengths: Lengths,
 }
 
-// What a line of input does; the answer is the lengths after it.
-fn step(out: &impl Print, line: &[u8], list: &mut [u8], l: Lengths) -> Lengths {
-    match which(line, b"case areas open") {
-        0 => {
+impl Case {
+    fn start(&mut self) {
+        self.list.clear();
+        self.lengths = Lengths {
+            list: 0,
+            image: 32768,
+            stash: 12288,
+            work: 12288,
+            result: 12288,
+            patch: 0,
+        };
+    }
+
+    fn open(&self, out: &impl Print) {
+        let l = self.lengths;
+        let opened = transfer_list::open(&self.list, l.image, l.stash, l.work, l.result, l.patch);
+        let refusal = opened.refusal;
+        let _ = if refusal.number == 0 {
+            println!(out; "accepted")
+        } else {
+            println!(out;
+                "refused {} {} {}",
+                refusal.number, refusal.line, refusal.byte
+            )
+        };
+    }
+}
+
+// The five lengths of a line.
+fn lengths_in(line: &[u8]) -> Lengths {
+    Lengths {
+        list: 0,
+        image: number(line, 1),
+        stash: number(line, 2),
+        work: number(line, 3),
+        result: number(line, 4),
+        patch: number(line, 5),
+    }
+}
+
+// What a line of input does.
+fn step(out: &impl Print, line: &[u8], case: &mut Case) -> Result<(), AllocError> {
+    match field(line, 0) {
+        b"case" => {
             say(out, rest(line, 1));
             say(out, b": ");
-            Lengths {
-                list: 0,
-                image: 32768,
-                stash: 12288,
-                work: 12288,
-                result: 12288,
-                patch: 0,
-            }
+            case.start();
         }
-        1 => Lengths {
-            list: l.list,
-            image: number(line, 1),
-            stash: number(line, 2),
-            work: number(line, 3),
-            result: number(line, 4),
-            patch: number(line, 5),
-        },
-        2 => {
-            say_opened(out, part(&*list, 0, l.list), l);
-            l
-        }
-        _ => Lengths {
-            list: put(list, l.list, line),
-            image: l.image,
-            stash: l.stash,
-            work: l.work,
-            result: l.result,
-            patch: l.patch,
-        },
+        b"areas" => case.lengths = lengths_in(line),
+        b"open" => case.open(out),
+        _ => put(&mut case.list, line, LIST_ROOM)?,
     }
+    Ok(())
 }
 
-// The lines of the input, one after the other.
-fn run(out: &impl Print, text: &[u8], list: &mut [u8; LIST_ROOM]) {
-    let mut l = Lengths {
-        list: 0,
-        image: 0,
-        stash: 0,
-        work: 0,
-        result: 0,
-        patch: 0,
+fn main(rt: HostRuntime) -> Result<(), AllocError> {
+    let text = read_input(rt.alloc(), &rt);
+    let mut case = Case {
+        list: Vec::new(rt.alloc()),
+        lengths: lengths_in(b""),
     };
-    let mut from = 0;
-    let mut i = 0;
-    while i < text.len() {
-        if text[i] == b'\n' {
-            l = step(out, &text[from..i], list, l);
-            from = i + 1;
+    for line in text.split_inclusive(|b| *b == b'\n') {
+        if let Some(line) = line.strip_suffix(b"\n") {
+            step(&rt, line, &mut case)?;
         }
-        i += 1;
     }
-}
-
-fn main(rt: HostRuntime) {
-    let mut text = [0u8; INPUT_ROOM];
-    let n = read_full(&mut rt.reader(), &mut text);
-    let mut list = [0u8; LIST_ROOM];
-    run(&rt, &text[..n], &mut list);
+    Ok(())
 }

@@ -6,10 +6,7 @@ use std::rt::Files;
 use std::str::from_utf8;
 
 fn text_of(path: &[u8]) -> Result<&str> {
-    match from_utf8(path) {
-        Ok(text) => Ok(text),
-        Err(_) => Err(Error::from(ErrorKind::InvalidFilename)),
-    }
+    from_utf8(path).map_err(|_| Error::from(ErrorKind::InvalidFilename))
 }
 
 pub(crate) fn open_read<R: Files>(rt: &R, path: &[u8]) -> Result<R::File> {

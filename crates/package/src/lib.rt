@@ -4,18 +4,18 @@
 // No contract can speak of a file. What is decided about files is in the crate `decisions`, where each function has its equation.
 #![tactic(auto)]
 
-ghost use Rattle.std.specs.Prelude.{◌≤◌, length};
-ghost use Rattle.io.specs.Counts.{IsPrefixLen};
+ghost use Rattle.std.specs.Prelude.{◌≡◌, ◌≤◌, length};
 ghost use Rattle.decisions.specs.Program.{piece_bytes};
 
 use crate::files::{open_read, open_update};
-use crate::read::{Loaded, Opened, check_opened, fill, read_file};
+use crate::messages::Told;
+use crate::read::{check_opened, fill, read_file};
 use crate::standard::hold_standard;
 use crate::write_back::write_back;
-use decisions::answer::answer_line;
+use decisions::answer::Answer;
 use decisions::{
-    AREA_BYTES, IMAGE_BYTES, LIST_BYTES, PATCH_BYTES, calls_on, is_stop, open_list, patch_length,
-    size_refusal,
+    AREA_BYTES, IMAGE_BYTES, LIST_BYTES, PATCH_BYTES, calls_on, check_sizes, is_stop, open_list,
+    patch_length,
 };
 use state::{Refusal, State};
 use std::fs::File;
@@ -39,26 +39,30 @@ const PATCH_ROOM: usize = PATCH_BYTES + 1;
 
 const PIECE_BYTES: usize = 4096;
 
-// What the calls came to, or that the new data could not be read.
-#[derive(Clone, Copy)]
-enum Ran {
-    To(Outcome, u64),
-    Failed,
-}
+// That stops, or a file, come to an end is no contract of one call or one read, so turns are counted.
+const MOST_TURNS: u64 = 1 << 40;
 
-fn refused(refusal: Refusal) -> Outcome {
-    Outcome::Refused(refusal)
+// The files of an update. The copy is what is about to be written, kept while the image is written.
+#[derive(Clone, Copy)]
+pub struct Paths<'a> {
+    pub list: &'a [u8],
+    pub image: &'a [u8],
+    pub data: &'a [u8],
+    pub patch: &'a [u8],
+    pub copy: &'a [u8],
 }
 
 // An answer that cannot be printed is told nowhere.
 fn say(rt: &impl Print, outcome: Outcome, taken: u64) {
-    let line = answer_line(outcome, taken);
-    let bytes = line.bytes;
-    let n = line.length;
-    let _ = rt.write_all(&bytes[..n]);
+    let answer = Answer { outcome, taken };
+    let _ = print!(rt; "{answer}");
 }
 
-// Calls with a piece, and after each stop with what is left of it. The calls are counted: that stops come to an end is no contract of one call.
+fn say_refused(rt: &impl Print, refusal: Refusal) {
+    say(rt, Outcome::Refused(refusal), 0);
+}
+
+// Calls with a piece, and after each stop with what is left of it.
 fn call_on(
     list: &[u8],
     image: &mut [u8],
@@ -67,35 +71,22 @@ fn call_on(
     res: &mut [u8],
     patch: &[u8],
     piece: &[u8],
-    state: State,
-) -> Called
-    ensures { result.taken ≤ length piece.now }
-{
-    let mut s = state;
-    let mut at = 0;
-    let mut turns: u64 = 1 << 40;
-    while 0 < turns {
-        let called = call(list, image, stash, work, res, patch, &piece[at..], s);
-        s = called.state;
-        at += called.taken;
-        let outcome = called.outcome;
-        if !is_stop(outcome) {
-            return Called {
-                state: s,
-                outcome,
-                taken: at,
-            };
+    state: &mut State,
+) -> Called {
+    let mut taken = 0;
+    let mut outcome = Outcome::More;
+    for _ in 0..MOST_TURNS {
+        let called = call(list, image, stash, work, res, patch, &piece[taken..], state);
+        taken += called.taken;
+        if !is_stop(called.outcome) {
+            outcome = called.outcome;
+            break;
         }
-        turns -= 1;
     }
-    Called {
-        state: s,
-        outcome: Outcome::More,
-        taken: at,
-    }
+    Called { outcome, taken }
 }
 
-// One piece after the other; the first is read already. The turns are counted, since nothing says that a file ends.
+// One piece after the other; the first is read already. What the calls came to, and all bytes taken.
 fn run<F: Read>(
     rt: &impl Eprint,
     list: &[u8],
@@ -106,17 +97,16 @@ fn run<F: Read>(
     data: &mut Option<F>,
     data_path: &[u8],
     opened: State,
-) -> Ran
-    requires { IsPrefixLen first piece.old × (length piece.old ≤ piece_bytes) }
+) -> Result<(Outcome, u64), Told>
+    requires { (first ≤ length piece.old) × (length piece.old ≡ piece_bytes) }
 {
-    let mut stash = [0u8; AREA_BYTES];
-    let mut work = [0u8; AREA_BYTES];
-    let mut result = [0u8; AREA_BYTES];
-    let mut s = opened;
+    let mut stash = [0; AREA_BYTES];
+    let mut work = [0; AREA_BYTES];
+    let mut result = [0; AREA_BYTES];
+    let mut state = opened;
     let mut n = first;
     let mut taken: u64 = 0;
-    let mut turns: u64 = 1 << 40;
-    while 0 < turns {
+    for _ in 0..MOST_TURNS {
         let called = call_on(
             list,
             image,
@@ -125,124 +115,64 @@ fn run<F: Read>(
             &mut result,
             patch,
             &piece[..n],
-            s,
+            &mut state,
         );
-        s = called.state;
-        taken += called.taken as u64;
-        let outcome = called.outcome;
-        if !calls_on(outcome, n) {
-            return Ran::To(outcome, taken);
+        taken = taken.saturating_add(called.taken as u64);
+        if !calls_on(called.outcome, n) {
+            return Ok((called.outcome, taken));
         }
-        let Loaded::Bytes(next) = fill(rt, data, data_path, piece) else {
-            return Ran::Failed;
-        };
-        n = next;
-        turns -= 1;
+        n = fill(rt, data, data_path, piece)?;
     }
-    Ran::To(Outcome::More, taken)
+    Ok((Outcome::More, taken))
 }
 
-// An image that is absent has no bytes to write.
-fn write_found<R: Files + Eprint>(
-    rt: &R,
-    image_file: &mut Option<R::File>,
-    path: &[u8],
-    copy_path: &[u8],
-    image: &[u8],
-) -> bool {
-    match image_file {
-        Some(file) => write_back(rt, file, path, copy_path, image),
-        None => true,
-    }
-}
-
-// Every file is read before anything is decided, the new data as far as its first piece.
+// Every file is read before anything is decided, the new data as far as its first piece. An image that is absent has no bytes to write.
 fn update_opened<R: Files + Print + Eprint>(
     rt: &R,
     list: &[u8],
     patch: &[u8],
     image_file: &mut Option<R::File>,
-    image_path: &[u8],
     data: &mut Option<R::File>,
-    data_path: &[u8],
-    copy_path: &[u8],
-) {
-    let mut image = [0u8; IMAGE_ROOM];
-    let mut piece = [0u8; PIECE_BYTES];
-    let Loaded::Bytes(m) = fill(rt, image_file, image_path, &mut image) else {
-        return;
-    };
-    let Loaded::Bytes(n) = fill(rt, data, data_path, &mut piece) else {
-        return;
-    };
-    let size = size_refusal(list.len(), m);
-    if size.number != 0 {
-        say(rt, refused(size), 0);
-        return;
+    paths: Paths,
+) -> Result<(), Told> {
+    let mut image = [0; IMAGE_ROOM];
+    let mut piece = [0; PIECE_BYTES];
+    let m = fill(rt, image_file, paths.image, &mut image)?;
+    let n = fill(rt, data, paths.data, &mut piece)?;
+    let image = &mut image[..m];
+    if let Err(refused) = check_sizes(list.len(), m) {
+        say_refused(rt, refused.refusal());
+        return Ok(());
     }
     let opened = open_list(list, m, patch.len());
-    let refusal = opened.refusal;
-    if refusal.number != 0 {
-        say(rt, refused(refusal), 0);
-        return;
+    if opened.refusal.number != 0 {
+        say_refused(rt, opened.refusal);
+        return Ok(());
     }
-    let ran = run(
-        rt,
-        list,
-        &mut image[..m],
-        patch,
-        &mut piece,
-        n,
-        data,
-        data_path,
-        opened,
-    );
-    let Ran::To(outcome, taken) = ran else {
-        return;
-    };
-    if write_found(rt, image_file, image_path, copy_path, &image[..m]) {
-        say(rt, outcome, taken);
+    let (outcome, taken) = run(
+        rt, list, image, patch, &mut piece, n, data, paths.data, opened,
+    )?;
+    if let Some(file) = image_file {
+        write_back(rt, file, paths.image, paths.copy, image)?;
     }
+    say(rt, outcome, taken);
+    Ok(())
+}
+
+fn update_files<R: Files<File = File> + Print + Eprint>(rt: &R, paths: Paths) -> Result<(), Told> {
+    hold_standard(rt)?;
+    let mut list = [0; LIST_ROOM];
+    let list = read_file(rt, paths.list, &mut list)?;
+    let mut patch = [0; PATCH_ROOM];
+    let patch = read_file(rt, paths.patch, &mut patch)?;
+    let patch = &patch[..patch_length(patch.len())];
+    let mut image = check_opened(rt, open_update(rt, paths.image), paths.image)?;
+    let mut data = check_opened(rt, open_read(rt, paths.data), paths.data)?;
+    update_opened(rt, list, patch, &mut image, &mut data, paths)
 }
 
 // Applies an update and prints the answer line. A file that is there and cannot be read, or an image that cannot be written, gets a
-// message on standard error instead. The copy is what is about to be written, kept while the image is written.
-pub fn update<R: Files<File = File> + Print + Eprint>(
-    rt: &R,
-    list_path: &[u8],
-    image_path: &[u8],
-    data_path: &[u8],
-    patch_path: &[u8],
-    copy_path: &[u8],
-) {
-    if !hold_standard(rt) {
-        return;
-    }
-    let mut list = [0u8; LIST_ROOM];
-    let Loaded::Bytes(n) = read_file(rt, list_path, &mut list) else {
-        return;
-    };
-    let mut patch = [0u8; PATCH_ROOM];
-    let Loaded::Bytes(p) = read_file(rt, patch_path, &mut patch) else {
-        return;
-    };
-    let length = patch_length(p);
-    let image_opened = open_update(rt, image_path);
-    let Opened::At(mut image) = check_opened(rt, image_opened, image_path) else {
-        return;
-    };
-    let data_opened = open_read(rt, data_path);
-    let Opened::At(mut data) = check_opened(rt, data_opened, data_path) else {
-        return;
-    };
-    update_opened(
-        rt,
-        &list[..n],
-        &patch[..length],
-        &mut image,
-        image_path,
-        &mut data,
-        data_path,
-        copy_path,
-    );
+// message on standard error instead.
+pub fn update<R: Files<File = File> + Print + Eprint>(rt: &R, paths: Paths) {
+    let _ = update_files(rt, paths);
 }

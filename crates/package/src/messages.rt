@@ -16,8 +16,12 @@ fn words_of(bytes: &[u8]) -> &str {
     }
 }
 
+// A failure that is told: there is nothing more to say of it.
+#[derive(Clone, Copy, Debug)]
+pub(crate) struct Told;
+
 // Writes a line: the path, a colon and what is wrong with it.
-pub(crate) fn tell(rt: &impl Eprint, path: &[u8], error: &Error) {
+pub(crate) fn tell(rt: &impl Eprint, path: &[u8], error: &Error) -> Told {
     let mut printed = Cursor::new([0u8; TEXT_ROOM]);
     let _ = write!(printed, "{error}");
     let bytes = printed.into_inner();
@@ -29,4 +33,5 @@ pub(crate) fn tell(rt: &impl Eprint, path: &[u8], error: &Error) {
             eprintln!(rt; "{path}: {words}")
         }
     };
+    Told
 }

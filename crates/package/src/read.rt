@@ -1,69 +1,60 @@
 // Reading files. An absent file is empty; one that is there and cannot be read is told on standard error.
-ghost use Rattle.package.specs.Fills.{Fills};
+ghost use Rattle.std.specs.Prelude.{◌≤◌, length, IfOk};
 
 use crate::files::open_read;
-use crate::messages::tell;
-use std::io::{ErrorKind, Read, Result};
+use crate::messages::{Told, tell};
+use std::io;
+use std::io::{ErrorKind, Read};
 use std::rt::Files;
 
-// A file, none where it is absent.
-#[derive(Drop)]
-pub(crate) enum Opened<F> {
-    At(Option<F>),
-    Failed,
-}
-
-#[derive(Clone, Copy)]
-pub(crate) enum Loaded {
-    Bytes(usize),
-    Failed,
-}
-
-// What a call that opens a file answered.
-pub(crate) fn check_opened<F: Drop>(rt: &impl Eprint, opened: Result<F>, path: &[u8]) -> Opened<F> {
+// What a call that opens a file answered; an absent file is none.
+pub(crate) fn check_opened<F: Drop>(
+    rt: &impl Eprint,
+    opened: io::Result<F>,
+    path: &[u8],
+) -> Result<Option<F>, Told> {
     match opened {
-        Ok(file) => Opened::At(Some(file)),
+        Ok(file) => Ok(Some(file)),
         Err(error) => {
             if error.kind() == ErrorKind::NotFound {
-                return Opened::At(None);
+                Ok(None)
+            } else {
+                Err(tell(rt, path, &error))
             }
-            tell(rt, path, &error);
-            Opened::Failed
         }
     }
 }
 
-// Fills the buffer as far as the file goes.
+// Fills the buffer as far as the file goes, and answers how far that is.
 pub(crate) fn fill<F: Read>(
     rt: &impl Eprint,
     file: &mut Option<F>,
     path: &[u8],
     buf: &mut [u8],
-) -> Loaded
-    ensures { Fills buf.new result }
+) -> Result<usize, Told>
+    ensures { IfOk result (λ n. n ≤ length buf.new) }
 {
     let Some(file) = file else {
-        return Loaded::Bytes(0);
+        return Ok(0);
     };
     let mut n = 0;
     while n < buf.len() {
         match file.read(&mut buf[n..]) {
-            Ok(0) => return Loaded::Bytes(n),
+            Ok(0) => break,
             Ok(more) => n += more,
-            Err(error) => {
-                tell(rt, path, &error);
-                return Loaded::Failed;
-            }
+            Err(error) => return Err(tell(rt, path, &error)),
         }
     }
-    Loaded::Bytes(n)
+    Ok(n)
 }
 
-pub(crate) fn read_file<R: Files + Eprint>(rt: &R, path: &[u8], buf: &mut [u8]) -> Loaded
-    ensures { Fills buf.new result }
-{
-    let Opened::At(mut file) = check_opened(rt, open_read(rt, path), path) else {
-        return Loaded::Failed;
-    };
-    fill(rt, &mut file, path, buf)
+// The bytes of a file, as many as the buffer has room for.
+pub(crate) fn read_file<'a, R: Files + Eprint>(
+    rt: &R,
+    path: &[u8],
+    buf: &'a mut [u8],
+) -> Result<&'a [u8], Told> {
+    let mut file = check_opened(rt, open_read(rt, path), path)?;
+    let n = fill(rt, &mut file, path, buf)?;
+    Ok(&buf[..n])
 }

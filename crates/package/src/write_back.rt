@@ -1,45 +1,30 @@
 // Writing the image back where it lies: the file keeps its name, owner and mode, and a link stays a link. A power cut can leave such a
 // write half done, so a synced copy of the new image stands beside it until the image itself is synced. A new image
 // is such a copy, which gets the image's name.
-ghost use Rattle.io.specs.Counts.{IsPrefixLen};
-
 use crate::files::{create, open_read, remove, rename};
-use crate::messages::tell;
+use crate::messages::{Told, tell};
 use std::fs::{OpenFile, Permissions};
-use std::io::{Result, Seek, SeekFrom, Write};
+use std::io;
+use std::io::{Seek, SeekFrom, Write};
 use std::os::unix::fs::PermissionsExt;
 use std::rt::Files;
 
-// How much of a path is the name of its folder, with the slash at the end; 0 for a name alone.
-fn folder_bytes(path: &[u8]) -> usize
-    ensures { IsPrefixLen result path.now }
-{
-    let mut n = path.len();
-    while 0 < n {
-        if path[n - 1] == b'/' {
-            return n;
-        }
-        n -= 1;
+// The part of a path that is the name of its folder, with the slash at the end; `.` for a name alone.
+fn folder_of(path: &[u8]) -> &[u8] {
+    match path.iter().rposition(|byte| *byte == b'/') {
+        Some(slash) => &path[..slash + 1],
+        None => b".",
     }
-    0
-}
-
-fn sync_at(rt: &impl Files, folder: &[u8]) -> Result<()> {
-    let file = open_read(rt, folder)?;
-    file.sync_all()
 }
 
 // The names in a path's folder reach the device.
-fn sync_folder(rt: &impl Files, path: &[u8]) -> Result<()> {
-    let n = folder_bytes(path);
-    if n == 0 {
-        return sync_at(rt, b".");
-    }
-    sync_at(rt, &path[..n])
+fn sync_folder(rt: &impl Files, path: &[u8]) -> io::Result<()> {
+    let folder = open_read(rt, folder_of(path))?;
+    folder.sync_all()
 }
 
 // The copy is one byte too long until its bytes are synced: one of the image's length is whole.
-fn write_copy<F: Write + Seek + OpenFile>(file: &mut F, image: &[u8]) -> Result<()> {
+fn write_copy<F: Write + Seek + OpenFile>(file: &mut F, image: &[u8]) -> io::Result<()> {
     file.write_all(image)?;
     let end = file.seek(SeekFrom::Current(0))?;
     file.write_all(b"\n")?;
@@ -49,12 +34,16 @@ fn write_copy<F: Write + Seek + OpenFile>(file: &mut F, image: &[u8]) -> Result<
 }
 
 // A copy of an image that is there may be read by its owner alone, as the image may be.
-fn write_private<F: Write + Seek + OpenFile>(file: &mut F, image: &[u8]) -> Result<()> {
+fn write_private<F: Write + Seek + OpenFile>(file: &mut F, image: &[u8]) -> io::Result<()> {
     file.set_permissions(Permissions::from_mode(0o600))?;
     write_copy(file, image)
 }
 
-fn write_new<F: Write + Seek + OpenFile>(file: &mut F, image: &[u8], private: bool) -> Result<()> {
+fn write_new<F: Write + Seek + OpenFile>(
+    file: &mut F,
+    image: &[u8],
+    private: bool,
+) -> io::Result<()> {
     if private {
         return write_private(file, image);
     }
@@ -68,30 +57,28 @@ fn finish_copy<R: Files>(
     path: &[u8],
     image: &[u8],
     private: bool,
-) -> Result<()> {
+) -> io::Result<()> {
     write_new(&mut file, image, private)?;
     drop(file);
     sync_folder(rt, path)
 }
 
 // Makes the copy, unless its name is taken.
-fn keep_copy<R: Files + Eprint>(rt: &R, path: &[u8], image: &[u8], private: bool) -> bool {
-    let file = match create(rt, path) {
-        Ok(file) => file,
-        Err(error) => {
-            tell(rt, path, &error);
-            return false;
-        }
-    };
-    if let Err(error) = finish_copy(rt, file, path, image, private) {
-        tell(rt, path, &error);
+fn keep_copy<R: Files + Eprint>(
+    rt: &R,
+    path: &[u8],
+    image: &[u8],
+    private: bool,
+) -> Result<(), Told> {
+    let file = create(rt, path).map_err(|error| tell(rt, path, &error))?;
+    finish_copy(rt, file, path, image, private).map_err(|error| {
+        let told = tell(rt, path, &error);
         let _ = remove(rt, path);
-        return false;
-    }
-    true
+        told
+    })
 }
 
-fn overwrite<F: Write + Seek + OpenFile>(file: &mut F, image: &[u8]) -> Result<()> {
+fn overwrite<F: Write + Seek + OpenFile>(file: &mut F, image: &[u8]) -> io::Result<()> {
     file.seek(SeekFrom::Start(0))?;
     file.write_all(image)?;
     file.sync_all()
@@ -104,21 +91,16 @@ pub(crate) fn write_back<R: Files + Eprint>(
     path: &[u8],
     copy_path: &[u8],
     image: &[u8],
-) -> bool {
-    if image.len() == 0 {
-        return true;
+) -> Result<(), Told> {
+    if image.is_empty() {
+        return Ok(());
     }
-    if !keep_copy(rt, copy_path, image, true) {
-        return false;
-    }
-    if let Err(error) = overwrite(file, image) {
-        tell(rt, path, &error);
-        return false;
-    }
+    keep_copy(rt, copy_path, image, true)?;
+    overwrite(file, image).map_err(|error| tell(rt, path, &error))?;
     if let Err(error) = remove(rt, copy_path) {
         tell(rt, copy_path, &error);
     }
-    true
+    Ok(())
 }
 
 // Makes the image file, where there is none: a whole copy gets its name. Where the name is not sure to last, the image is there all the same.
@@ -127,21 +109,15 @@ pub(crate) fn make_image<R: Files + Eprint>(
     path: &[u8],
     copy_path: &[u8],
     image: &[u8],
-) -> bool {
-    if image.len() == 0 {
-        return true;
+) -> Result<(), Told> {
+    if image.is_empty() {
+        return Ok(());
     }
-    if !keep_copy(rt, copy_path, image, false) {
-        return false;
-    }
-    if let Err(error) = rename(rt, copy_path, path) {
-        tell(rt, path, &error);
+    keep_copy(rt, copy_path, image, false)?;
+    rename(rt, copy_path, path).map_err(|error| {
+        let told = tell(rt, path, &error);
         let _ = remove(rt, copy_path);
-        return false;
-    }
-    if let Err(error) = sync_folder(rt, path) {
-        tell(rt, path, &error);
-        return false;
-    }
-    true
+        told
+    })?;
+    sync_folder(rt, path).map_err(|error| tell(rt, path, &error))
 }

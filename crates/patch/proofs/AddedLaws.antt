@@ -3,7 +3,7 @@
 use Rattle.std.proofs.Common.{◌≡◌, ℕ, zero, suc, ◌+◌, ◌-◌, ◌%◌, ◌<◌, ◌≤◌, min, Bool, true, false, leb, List, [], ◌∷◌, ◌++◌, length, get_or, take, drop, set, sym, refl, ap, ◌∙◌, ap₂, append-nil, arith, length-drop, take-append-drop, drop_of_length-le, length-take, length-take-le, get_or-drop, take_all, ext_get_or, le-leb, leb-false, leb-true}
 use lib.ListN.{get_or-eq_default}
 use borrow.Author.Tests.{lt-leb}
-use Rattle.copy.proofs.OverLaws.{front-more}
+use Rattle.copy.proofs.OverLaws.{front_more}
 use Rattle.patch.specs.Position.{origin}
 use Rattle.patch.specs.Added.{source_at, added}
 
@@ -132,16 +132,16 @@ module _ (source adds : List ℕ) where
 
 module _ (source adds to : List ℕ) where
   -- a store takes the first i added bytes to one more
-  pub add-more : (i : ℕ) → i < length source → i < length adds → i < length to →
+  pub add_more : (i : ℕ) → i < length source → i < length adds → i < length to →
       set (take i (added source origin adds) ++ drop i to) i ((get_or source i 0 + get_or adds i 0) % 256)
-      ≡ take (suc i) (added source origin adds) ++ drop (suc i) to
-  add-more i h k l =
+      ≡ take (i + 1) (added source origin adds) ++ drop (i + 1) to
+  add_more i h k l =
       let n : origin + i - origin ≡ i = omega arith in
       let byte : source_at source (origin + i) ≡ get_or source i 0 = from-origin source (origin + i) (omega arith) ∙ rw n in
-      rw (← byte, ← added-at source origin adds i k) (front-more (added source origin adds) to i (omega (arith, length-added source origin adds)) l)
+      rw (← byte, ← added-at source origin adds i k) (front_more (added source origin adds) to i (omega (arith, length-added source origin adds)) l)
 
-  pub add-all : (i : ℕ) → i ≡ length adds → length to ≡ length adds →
+  pub add_all : (i : ℕ) → i ≡ length adds → length to ≡ length adds →
       take i (added source origin adds) ++ drop i to ≡ added source origin adds
-  add-all i e f =
+  add_all i e f =
       let l = length-added source origin adds in
       rw (take_all {A = ℕ} i (added source origin adds) (omega arith), drop_of_length-le to {i = i} (omega arith)) (append-nil (added source origin adds))

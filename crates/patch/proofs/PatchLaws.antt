@@ -4,16 +4,16 @@ use Rattle.std.proofs.Common.{◌≡◌, ℕ, zero, suc, ◌+◌, ◌-◌, ◌<�
 use lib.Seq.{take-length}
 use Rattle.text.specs.Choice.{pick, both}
 use Rattle.text.proofs.ChoiceLaws.{both_true}
+use Rattle.text.specs.Read.{on_option}
 use Rattle.copy.proofs.OverLaws.{length_over}
 use Rattle.patch.specs.Position.{origin, last_position}
 use Rattle.patch.specs.Record.{record_at}
 use Rattle.patch.specs.Added.{added}
-use Rattle.patch.specs.Patch.{Records, on_record, stopped, follow, records_at, records_from, records_of, between, record_result, record_size, result_of, result_size, patched_by, is_patch}
+use Rattle.patch.specs.Patch.{Records, stopped, follow, records_at, records_from, records_of, between, record_result, record_size, result_of, result_size, patched_by, is_patch}
 use Rattle.patch.specs.declared.records.Record.{Record}
-use Rattle.patch.specs.declared.records.RecordRead.{RecordRead}
-use Rattle.patch.specs.declared.records.RecordRead.TheVariants.{Good, Bad}
 use Rattle.patch.proofs.RecordLaws.{Within, record_within}
 use Rattle.patch.proofs.AddedLaws.{length-added}
+use Rattle.std.specs.Prelude.{Option, Some, None}
 
 -- ---- the records from a byte of the patch on
 
@@ -28,24 +28,24 @@ enough patch (suc n) (suc m) at position p a h k =
   where
     go : ((at position : ℕ) → position ≤ last_position → at ≤ length patch → length patch < n + at → length patch < m + at →
         records_at n patch at position ≡ records_at m patch at position) →
-        (x : RecordRead) → record_at patch at position ≡ x →
-        on_record x (λ r. follow r (records_at n patch r.end r.next)) (stopped false)
-        ≡ on_record x (λ r. follow r (records_at m patch r.end r.next)) (stopped false)
-    go same (Good r) e =
+        (x : Option Record) → record_at patch at position ≡ x →
+        on_option x (λ r. follow r (records_at n patch r.end r.next)) (stopped false)
+        ≡ on_option x (λ r. follow r (records_at m patch r.end r.next)) (stopped false)
+    go same (Some r) e =
         let w = record_within patch at position p e in
         ap (follow r) (same r.end r.next w.next w.inside (omega arith) (omega arith))
-    go same Bad e = refl
+    go same None e = refl
 
 module _ (patch : List ℕ) (at position : ℕ) where
   pub records_end : length patch ≤ at → records_from patch at position ≡ stopped true
   unfolding records_from records_at
   records_end h = rw (le-ltb at (length patch) h)
 
-  pub records_bad : at < length patch → record_at patch at position ≡ Bad → records_from patch at position ≡ stopped false
+  pub records_bad : at < length patch → record_at patch at position ≡ None → records_from patch at position ≡ stopped false
   unfolding records_from records_at
   records_bad h e = rw (lt-ltb at (length patch) h, e)
 
-  pub records_good : at < length patch → position ≤ last_position → {r : Record} → record_at patch at position ≡ Good r →
+  pub records_good : at < length patch → position ≤ last_position → {r : Record} → record_at patch at position ≡ Some r →
       records_from patch at position ≡ follow r (records_from patch r.end r.next)
   unfolding records_from records_at
   records_good h p {r} e =
@@ -100,14 +100,14 @@ module _ (patch source : List ℕ) where
     where
       go : ((at position : ℕ) → position ≤ last_position →
           length (result_of patch source (records_at n patch at position).list) ≡ result_size (records_at n patch at position).list) →
-          (t : Bool) (x : RecordRead) → record_at patch at position ≡ x →
-          length (result_of patch source (pick t (on_record x (λ r. follow r (records_at n patch r.end r.next)) (stopped false)) (stopped true)).list)
-          ≡ result_size (pick t (on_record x (λ r. follow r (records_at n patch r.end r.next)) (stopped false)) (stopped true)).list
-      go more true (Good r) e =
+          (t : Bool) (x : Option Record) → record_at patch at position ≡ x →
+          length (result_of patch source (pick t (on_option x (λ r. follow r (records_at n patch r.end r.next)) (stopped false)) (stopped true)).list)
+          ≡ result_size (pick t (on_option x (λ r. follow r (records_at n patch r.end r.next)) (stopped false)) (stopped true)).list
+      go more true (Some r) e =
           let w = record_within patch at position p e in
           length-append (record_result patch source r) (result_of patch source (records_at n patch r.end r.next).list)
           ∙ ap₂ (λ (i j : ℕ). i + j) (length_record w) (more r.end r.next w.next)
-      go more true Bad e = refl
+      go more true None e = refl
       go more false x e = refl
 
 -- ---- a result that is being written

@@ -3,12 +3,11 @@
 -- Assumes nothing: these are definitions.
 use Rattle.std.specs.Prelude.{ℕ, zero, suc, ◌+◌, ◌-◌, Bool, true, false, List, [], ◌∷◌, ◌++◌, length, take, drop, ◌==◌, nat_lt}
 use Rattle.text.specs.Choice.{pick, both}
+use Rattle.text.specs.Read.{on_option}
 use Rattle.patch.specs.Position.{origin}
 use Rattle.patch.specs.Record.{record_at}
 use Rattle.patch.specs.Added.{added}
 use Rattle.patch.specs.declared.records.Record.{Record}
-use Rattle.patch.specs.declared.records.RecordRead.{RecordRead}
-use Rattle.patch.specs.declared.records.RecordRead.TheVariants.{Good, Bad}
 
 -- ---- the records
 
@@ -16,10 +15,6 @@ use Rattle.patch.specs.declared.records.RecordRead.TheVariants.{Good, Bad}
 pub record Records : Type 0 where
   pub list : List Record
   pub good : Bool
-
-abbrev pub on_record : {A : Type 0} → RecordRead → (Record → A) → A → A
-on_record (Good r) good bad = good r
-on_record Bad good bad = bad
 
 abbrev pub stopped : Bool → Records
 stopped good = record { list = []; good = good }
@@ -32,7 +27,7 @@ unfoldable pub records_at : ℕ → List ℕ → ℕ → ℕ → Records
 records_at zero patch at position = stopped false
 records_at (suc n) patch at position =
     pick (nat_lt at (length patch))
-    (on_record (record_at patch at position) (λ r. follow r (records_at n patch r.end r.next)) (stopped false))
+    (on_option (record_at patch at position) (λ r. follow r (records_at n patch r.end r.next)) (stopped false))
     (stopped true)
 
 -- however many they are: each has bytes of the patch

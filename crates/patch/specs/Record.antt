@@ -1,14 +1,12 @@
 -- Document 02, R-4: a record of a patch is a two-byte mark 43 50 (hex), bsdiff's control triple of add length, extra length and seek, the
 -- add bytes, the extra bytes. Lengths are not negative; the position moves on by the add length, then by the seek.
 -- Assumes nothing: these are definitions.
-use Rattle.std.specs.Prelude.{ℕ, ◌+◌, Bool, true, List, [], ◌∷◌, length, ◌==◌, nat_le}
+use Rattle.std.specs.Prelude.{ℕ, ◌+◌, Bool, true, List, [], ◌∷◌, length, ◌==◌, nat_le, Option, Some, None}
 use Rattle.text.specs.Choice.{pick, both, no}
 use Rattle.little_endian.specs.LittleEndian.{two_at, eight_at}
 use Rattle.patch.specs.Signed.{is_negative, is_minus_zero}
 use Rattle.patch.specs.Position.{moved, can_move}
 use Rattle.patch.specs.declared.records.Record.{Record}
-use Rattle.patch.specs.declared.records.RecordRead.{RecordRead}
-use Rattle.patch.specs.declared.records.RecordRead.TheVariants.{Good, Bad}
 
 -- bytes of a mark and a control triple
 abbrev pub record_header_bytes : ℕ
@@ -64,5 +62,5 @@ abbrev pub all : List Bool → Bool
 all [] = true
 all (test ∷ tests) = both test (all tests)
 
-unfoldable pub record_at : List ℕ → ℕ → ℕ → RecordRead
-record_at patch at position = pick (all (record_tests patch at position)) (Good (record_from patch at position)) Bad
+unfoldable pub record_at : List ℕ → ℕ → ℕ → Option Record
+record_at patch at position = pick (all (record_tests patch at position)) (Some (record_from patch at position)) None

@@ -6,7 +6,7 @@ ghost use Rattle.text.specs.Choice.{pick};
 ghost use Rattle.patch.specs.Patch.{is_patch, patched_by};
 
 use crate::position::ORIGIN;
-use crate::records::{RecordRead, read_record};
+use crate::records::read_record;
 use crate::write::write_records;
 
 mod added;
@@ -14,7 +14,7 @@ mod position;
 mod records;
 mod write;
 
-// Whether a patch is well formed and makes `size` bytes. It goes over the whole patch.
+// Whether a patch is well formed and makes `size` bytes. It goes over the whole patch; each record says where the next one starts.
 fn is_patch(patch: &[u8], size: usize) -> bool
     ensures { result ≡ is_patch patch.now size }
 {
@@ -22,7 +22,7 @@ fn is_patch(patch: &[u8], size: usize) -> bool
     let mut position = ORIGIN;
     let mut total = 0;
     while at < patch.len() {
-        let RecordRead::Good(found) = read_record(patch, at, position) else {
+        let Some(found) = read_record(patch, at, position) else {
             return false;
         };
         at = found.end;

@@ -1,5 +1,6 @@
 // The position in the source, and numbers with a sign that move it.
-ghost use Rattle.std.specs.Prelude.{◌≡◌, ◌≤◌, true};
+ghost use Rattle.std.specs.Prelude.{◌≡◌, ◌≤◌, true, false};
+ghost use Rattle.std.specs.Option.{MatchOption};
 ghost use Rattle.patch.specs.Position.{last_position, can_move, moved};
 
 // The top bit of eight bytes.
@@ -12,25 +13,18 @@ pub(crate) const ORIGIN: usize = FARTHEST;
 
 const LAST_POSITION: usize = ORIGIN + FARTHEST;
 
-// Whether the position stays within its bounds.
-#[tactic(auto, unfolding(crate::specs::Position::can_move))]
-pub(crate) fn can_move(position: usize, n: usize) -> bool
-    requires { position ≤ last_position }
-    ensures { result ≡ can_move position n }
-{
-    if SIGN_BIT <= n {
-        return n - SIGN_BIT <= position;
-    }
-    n <= LAST_POSITION - position
-}
-
+// The position after a move by a number, where it stays within its bounds.
 #[tactic(auto, unfolding(crate::specs::Position::can_move, crate::specs::Position::moved))]
-pub(crate) fn move_by(position: usize, n: usize) -> usize
-    requires { (position ≤ last_position) × (can_move position n ≡ true) }
-    ensures { result ≡ moved position n }
+pub(crate) fn move_by(position: usize, n: usize) -> Option<usize>
+    requires { position ≤ last_position }
+    ensures { MatchOption result (can_move position n ≡ false)
+        (λ next. (can_move position n ≡ true) × (next ≡ moved position n) × (next ≤ last_position)) }
 {
     if SIGN_BIT <= n {
-        return position - (n - SIGN_BIT);
+        position.checked_sub(n - SIGN_BIT)
+    } else if n <= LAST_POSITION - position {
+        Some(position + n)
+    } else {
+        None
     }
-    position + n
 }

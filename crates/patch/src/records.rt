@@ -3,7 +3,7 @@ ghost use Rattle.std.specs.Prelude.{◌≡◌, ◌≤◌, length};
 ghost use Rattle.patch.specs.Position.{last_position};
 ghost use Rattle.patch.specs.Record.{record_at};
 
-use crate::position::{SIGN_BIT, can_move, move_by};
+use crate::position::{SIGN_BIT, move_by};
 use little_endian::{read_u16, read_u64};
 
 const RECORD_HEADER_BYTES: usize = 26;
@@ -22,58 +22,34 @@ pub struct Record {
     pub next: usize,
 }
 
-#[derive(Clone, Copy)]
-pub enum RecordRead {
-    Good(Record),
-    Bad,
-}
-
 // The record at a byte of the patch, with the position before it.
 #[tactic(auto, unfolding(crate::specs::Record::record_at))]
-pub(crate) fn read_record(patch: &[u8], at: usize, position: usize) -> RecordRead
+pub(crate) fn read_record(patch: &[u8], at: usize, position: usize) -> Option<Record>
     requires { (at ≤ length patch.now) × (position ≤ last_position) }
     ensures { result ≡ record_at patch.now at position }
 {
     let left = patch.len() - at;
-    if left < RECORD_HEADER_BYTES {
-        return RecordRead::Bad;
-    }
-    if read_u16(patch, at) != RECORD_MARK {
-        return RecordRead::Bad;
+    if left < RECORD_HEADER_BYTES || read_u16(patch, at) != RECORD_MARK {
+        return None;
     }
     let add = read_u64(patch, at + 2) as usize;
     let extra = read_u64(patch, at + 10) as usize;
     let seek = read_u64(patch, at + 18) as usize;
-    if SIGN_BIT <= add {
-        return RecordRead::Bad;
-    }
-    if SIGN_BIT <= extra {
-        return RecordRead::Bad;
-    }
-    // Minus zero.
-    if seek == SIGN_BIT {
-        return RecordRead::Bad;
+    // A length is not negative, and there is no minus zero.
+    if SIGN_BIT <= add || SIGN_BIT <= extra || seek == SIGN_BIT {
+        return None;
     }
     // One after the other: a sum of two lengths that were read may not fit.
     let room = left - RECORD_HEADER_BYTES;
-    if room < add {
-        return RecordRead::Bad;
+    if room < add || room - add < extra {
+        return None;
     }
-    if room - add < extra {
-        return RecordRead::Bad;
-    }
-    if !can_move(position, add) {
-        return RecordRead::Bad;
-    }
-    let middle = move_by(position, add);
-    if !can_move(middle, seek) {
-        return RecordRead::Bad;
-    }
-    let next = move_by(middle, seek);
+    let middle = move_by(position, add)?;
+    let next = move_by(middle, seek)?;
     let adds = at + RECORD_HEADER_BYTES;
     let extras = adds + add;
     let end = extras + extra;
-    RecordRead::Good(Record {
+    Some(Record {
         adds,
         extras,
         end,

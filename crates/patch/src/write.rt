@@ -4,8 +4,7 @@ ghost use Rattle.patch.specs.Patch.{records_of, record_result, record_size, resu
 
 use crate::added::add_from;
 use crate::position::ORIGIN;
-use crate::records::{Record, RecordRead, read_record};
-use copy::copy_in;
+use crate::records::{Record, read_record};
 
 // What a record makes, over a part that has room for just that.
 fn write_record(part: &mut [u8], patch: &[u8], source: &[u8], found: Record)
@@ -13,15 +12,18 @@ fn write_record(part: &mut [u8], patch: &[u8], source: &[u8], found: Record)
     requires room { length part.old ≡ record_size found }
     ensures { part.new ≡ record_result patch.now source.now found }
 {
-    let adds = found.adds;
-    let extras = found.extras;
-    let end = found.end;
-    let n = extras - adds;
-    add_from(&mut part[..n], source, &patch[adds..extras], found.position);
-    copy_in(&mut part[n..], &patch[extras..end]);
+    let n = found.extras - found.adds;
+    add_from(
+        &mut part[..n],
+        source,
+        &patch[found.adds..found.extras],
+        found.position,
+    );
+    part[n..].copy_from_slice(&patch[found.extras..found.end]);
 }
 
-// The records over a result of their sizes, one after the other, up to one that is malformed: of a checked patch none is.
+// The records over a result of their sizes, one after the other, up to one that is malformed: of a checked patch none is. Each says where the
+// next one starts.
 pub(crate) fn write_records(patch: &[u8], source: &[u8], res: &mut [u8])
     requires { length res.old ≡ result_size (records_of patch.now).list }
     ensures { res.new ≡ patched_by patch.now source.now }
@@ -30,7 +32,7 @@ pub(crate) fn write_records(patch: &[u8], source: &[u8], res: &mut [u8])
     let mut position = ORIGIN;
     let mut out = 0;
     while at < patch.len() {
-        let RecordRead::Good(found) = read_record(patch, at, position) else {
+        let Some(found) = read_record(patch, at, position) else {
             return;
         };
         let end = out + (found.end - found.adds);

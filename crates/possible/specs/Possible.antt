@@ -1,16 +1,16 @@
 -- Document 01, "Calls", and document 02, R-4 and R-9: 17, the states that a list can have with its areas and its patch data.
 -- Assumes nothing: these are definitions.
-use Rattle.std.specs.Prelude.{ℕ, ◌-◌, ◌*◌, Bool, false, List, length, get_or, leb, ltb, eqb}
+use Rattle.std.specs.Prelude.{ℕ, ◌-◌, ◌*◌, Bool, false, List, length, get_or, leb, ltb, eqb, Result, Ok, Err, Option, Some, None}
 use Rattle.text.specs.Choice.{both, either, no}
 use Rattle.text.specs.Line.{line_at, line_number}
 use Rattle.text.specs.Expected.{lf}
+use Rattle.text.specs.Read.{on_option}
 use Rattle.state.specs.Limits.{block_bytes, most_stashes}
 use Rattle.state.specs.Refusals.{none}
-use Rattle.state.specs.Stashes.{Stash, Table, table_of, held_in, held, held_twice, holds_empty, blocks_held, find_in, size_at, younger}
+use Rattle.state.specs.Stashes.{Stash, table_of, held_in, held, held_twice, holds_empty, blocks_held, find_in, size_at, younger}
+use Rattle.state.specs.declared.stashes.Table.{Table}
 use Rattle.state.specs.States.{is_ready}
 use Rattle.state.specs.Stretches.{is_stretch}
-use Rattle.state.specs.declared.stashes.Found.{Found}
-use Rattle.state.specs.declared.stashes.Found.TheVariants.{At, Nothing}
 use Rattle.state.specs.declared.Lengths.{Lengths}
 use Rattle.state.specs.declared.State.{State}
 use Rattle.command.specs.Commands.{command_of}
@@ -19,12 +19,11 @@ use Rattle.rules.specs.declared.Terms.{Terms}
 use Rattle.command.specs.Filling.{fills}
 use Rattle.command.specs.declared.Command.{Command}
 use Rattle.command.specs.declared.Command.TheVariants as command
-use Rattle.command.specs.Targets.{new_target, on_new_target}
-use Rattle.transfer_list.specs.Header.{header_of, start_refusal}
+use Rattle.command.specs.Targets.{new_target}
+use Rattle.transfer_list.specs.Header.{fault_at, header_of, start_refusal}
 use Rattle.transfer_list.specs.Opening.{terms_of}
 use Rattle.transfer_list.specs.declared.header.Header.{Header}
-use Rattle.transfer_list.specs.declared.header.HeaderRead.{HeaderRead}
-use Rattle.transfer_list.specs.declared.header.HeaderRead.TheVariants as header
+use Rattle.transfer_list.specs.declared.header.BadHeader.{BadHeader}
 
 -- the lengths of list, image, areas and patch data are those at opening
 unfoldable pub same_lengths : Lengths → Lengths → Bool
@@ -56,7 +55,7 @@ can_hold h t =
 -- a good `new` (6, 8) with more bytes than n
 unfoldable pub has_more : Terms → ℕ → Command → Bool
 has_more terms n c =
-    on_new_target (new_target c) (λ set. both (eqb (target_refusal terms set) none) (ltb n (block_bytes * set.blocks))) false
+    on_option (new_target c) (λ set. both (eqb (target_refusal terms set) none) (ltb n (block_bytes * set.blocks))) false
 
 -- bytes into a `new` are 0, or the line is a good `new` with more bytes than that
 unfoldable pub can_be_into : ℕ → List ℕ → Terms → ℕ → ℕ → Bool
@@ -69,9 +68,9 @@ can_be_ready least s terms at held ready =
     (both (eqb (refusal_of least (line_at s at) terms held) none) (fills (command_of least (line_at s at)).command))
 
 -- stretch k of a stash that was found is there to be moved
-unfoldable pub found_stretch : List Stash → ℕ → Found → Bool
-found_stretch held k (At j) = is_stretch (size_at held j) (younger held j) k
-found_stretch held k Nothing = false
+unfoldable pub found_stretch : List Stash → ℕ → Option ℕ → Bool
+found_stretch held k (Some j) = is_stretch (size_at held j) (younger held j) k
+found_stretch held k None = false
 
 -- a `free` of a held stash, with stretch k to be moved
 unfoldable pub frees_on : List Stash → ℕ → List ℕ → Command → Bool
@@ -91,9 +90,9 @@ can_be_stretched least s at held stretches =
     either (eqb stretches 0)
     (frees_on held stretches (command_of least (line_at s at)).hash (command_of least (line_at s at)).command)
 
-unfoldable pub possible_under : ℕ → List ℕ → Lengths → HeaderRead → State → Bool
-possible_under least s lengths (header.Bad line byte) state = false
-possible_under least s lengths (header.Good h) state =
+unfoldable pub possible_under : ℕ → List ℕ → Lengths → Result Header BadHeader → State → Bool
+possible_under least s lengths (Err bad) state = false
+possible_under least s lengths (Ok h) state =
     both (at_line s h state.line state.at)
     (both (can_hold h (table_of state))
     (both (can_be_into least s (terms_of lengths h) state.at state.into)
@@ -107,9 +106,9 @@ is_possible least s lengths state =
     (both (eqb (start_refusal s lengths).number none)
     (possible_under least s lengths (header_of s) state))
 
-unfoldable pub terms_under : Lengths → HeaderRead → Terms
-terms_under lengths (header.Good h) = terms_of lengths h
-terms_under lengths (header.Bad line byte) = record { image = 0; work = 0; result = 0; patch = 0; stashes = 0; blocks = 0 }
+unfoldable pub terms_under : Lengths → Result Header BadHeader → Terms
+terms_under lengths (Ok h) = terms_of lengths h
+terms_under lengths (Err bad) = record { image = 0; work = 0; result = 0; patch = 0; stashes = 0; blocks = 0 }
 
 -- what lines are checked against in a run
 unfoldable pub terms_for : List ℕ → Lengths → Terms

@@ -4,7 +4,9 @@
 ghost use Rattle.std.specs.Prelude.{◌≡◌};
 ghost use Rattle.ranges.specs.Ranges.{item_at, pair_at, ranges_at};
 
-use text::number::{Need, Number, read_number_for};
+use text::Read;
+use text::expected::read_expected;
+use text::number::{Need, read_number_for};
 
 pub mod walk;
 
@@ -17,13 +19,6 @@ pub const LEAST_AGAIN: u32 = 0;
 // The largest number of a list.
 const LARGEST: u32 = 4294967295;
 
-// One range: the blocks from start up to, not including, end; and the position past it.
-#[derive(Clone, Copy)]
-pub enum Pair {
-    Good { start: u32, end: u32, next: usize },
-    Bad(usize),
-}
-
 // Where a set stands in the text, how many blocks it has and its largest end.
 #[derive(Clone, Copy)]
 pub struct RangeSet {
@@ -32,78 +27,47 @@ pub struct RangeSet {
     pub end: u32,
 }
 
-// A set and the position past it, or the position of the first fault.
-#[derive(Clone, Copy)]
-pub enum Ranges {
-    Good(RangeSet, usize),
-    Bad(usize),
-}
-
 // A comma and a number.
-#[tactic(auto, unfolding(crate::specs::Ranges::item_at))]
-fn read_item(s: &[u8], at: usize, need: Need) -> Number
+#[tactic(auto, unfolding(crate::specs::Ranges::item_at, text::specs::Expected::expected_at))]
+fn read_item(s: &[u8], at: usize, need: Need) -> Read<u32>
     ensures { result ≡ item_at need s.now at }
 {
-    if s.len() <= at {
-        return Number::Bad(at);
-    }
-    if s[at] != b',' {
-        return Number::Bad(at);
-    }
-    read_number_for(s, at + 1, need)
+    let i = read_expected(s, at, b',')?;
+    read_number_for(s, i, need)
 }
 
-// One range of at least so many blocks, with a comma before each of its numbers.
-pub fn read_pair(s: &[u8], at: usize, least: u32) -> Pair
+// One range of at least so many blocks, with a comma before each of its numbers: its first block, and the one past its last.
+#[tactic(auto, using(crate::proofs::RangesLaws::item_most), unfolding(crate::specs::Ranges::pair_at))]
+pub fn read_pair(s: &[u8], at: usize, least: u32) -> Read<(u32, u32)>
     ensures { result ≡ pair_at least s.now at }
 {
     let most = LARGEST - least;
-    match read_item(s, at, Need::AtMost(most)) {
-        Number::Bad(p) => Pair::Bad(p),
-        Number::Good(start, i) => {
-            let low = start + least;
-            match read_item(s, i, Need::AtLeast(low)) {
-                Number::Bad(p) => Pair::Bad(p),
-                Number::Good(end, next) => Pair::Good { start, end, next },
-            }
-        }
-    }
+    let (start, i) = read_item(s, at, Need::AtMost(most))?;
+    let low = start + least;
+    let (end, next) = read_item(s, i, Need::AtLeast(low))?;
+    Ok(((start, end), next))
 }
 
 // The whole set, checked and measured; each range has at least so many blocks. Its fault is the first byte at which no range set could go on.
-pub fn read_ranges(s: &[u8], at: usize, least: u32) -> Ranges
+pub fn read_ranges(s: &[u8], at: usize, least: u32) -> Read<RangeSet>
     ensures { result ≡ ranges_at least s.now at }
 {
-    match read_number_for(s, at, Need::Count) {
-        Number::Bad(p) => Ranges::Bad(p),
-        Number::Good(count, from) => {
-            let mut left = count / 2;
-            let mut blocks: usize = 0;
-            let mut last: u32 = 0;
-            let mut i = from;
-            while 0 < left {
-                match read_pair(s, i, least) {
-                    Pair::Bad(p) => {
-                        return Ranges::Bad(p);
-                    }
-                    Pair::Good { start, end, next } => {
-                        blocks += (end - start) as usize;
-                        if last < end {
-                            last = end;
-                        }
-                        i = next;
-                        left -= 1;
-                    }
-                }
-            }
-            Ranges::Good(
-                RangeSet {
-                    at,
-                    blocks,
-                    end: last,
-                },
-                i,
-            )
-        }
+    let (count, from) = read_number_for(s, at, Need::Count)?;
+    let mut blocks: usize = 0;
+    let mut last: u32 = 0;
+    let mut i = from;
+    for _ in 0..count / 2 {
+        let ((start, end), next) = read_pair(s, i, least)?;
+        blocks += (end - start) as usize;
+        last = last.max(end);
+        i = next;
     }
+    Ok((
+        RangeSet {
+            at,
+            blocks,
+            end: last,
+        },
+        i,
+    ))
 }

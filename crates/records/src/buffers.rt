@@ -1,63 +1,44 @@
-// Bytes put together in a lent buffer.
-use crate::fields::{number, rest, which};
+// Bytes put together.
+use crate::fields::{field, number, rest};
+use std::alloc::AllocError;
 
 // At most n bytes of a text from a position on.
 pub fn part(s: &[u8], from: usize, n: usize) -> &[u8] {
-    if s.len() <= from {
-        let end = s.len();
-        return &s[end..];
-    }
-    if s.len() - from <= n {
-        return &s[from..];
-    }
-    let end = from + n;
+    let from = from.min(s.len());
+    let end = from.saturating_add(n).min(s.len());
     &s[from..end]
 }
 
-// The bytes go in at a position, as far as there is room; the answer is the position past them.
-fn append(buf: &mut [u8], at: usize, bytes: &[u8]) -> usize {
-    let mut next = at;
-    let mut i = 0;
-    while i < bytes.len() {
-        if buf.len() <= next {
-            return next;
+// Bytes at the end of a buffer, as far as it stays within the room.
+pub fn append(buf: &mut Vec<u8>, bytes: &[u8], room: usize) -> Result<(), AllocError> {
+    let left = room.saturating_sub(buf.len());
+    buf.extend_from_slice(part(bytes, 0, left))
+}
+
+fn put_once(buf: &mut Vec<u8>, line: &[u8], room: usize) -> Result<(), AllocError> {
+    match line.split_first() {
+        Some((b'|', text)) => {
+            append(buf, text, room)?;
+            append(buf, b"\n", room)
         }
-        buf[next] = bytes[i];
-        next += 1;
-        i += 1;
+        Some((b'+', text)) => append(buf, text, room),
+        _ => Ok(()),
     }
-    next
 }
 
-fn first_byte(s: &[u8]) -> u8 {
-    if s.len() == 0 { 0 } else { s[0] }
-}
-
-fn put_once(buf: &mut [u8], at: usize, line: &[u8]) -> usize {
-    match first_byte(line) {
-        b'|' => {
-            let next = append(buf, at, part(line, 1, line.len()));
-            append(buf, next, b"\n")
+// Puts the text of a line at the end of a buffer, as far as there is room. `|TEXT` stands for TEXT and an LF, `+TEXT` for TEXT alone, `repeat N LINE`
+// for LINE N times, and any other line for nothing.
+pub fn put(buf: &mut Vec<u8>, line: &[u8], room: usize) -> Result<(), AllocError> {
+    match field(line, 0) {
+        b"repeat" => {
+            let again = rest(line, 2);
+            for _ in 0..number(line, 1) {
+                put_once(buf, again, room)?;
+            }
+            Ok(())
         }
-        b'+' => append(buf, at, part(line, 1, line.len())),
-        _ => at,
+        _ => put_once(buf, line, room),
     }
-}
-
-// Puts the text of a line into a buffer at a position, and answers the position past it. `|TEXT` stands for TEXT and an LF, `+TEXT` for
-// TEXT alone, `repeat N LINE` for LINE N times, and any other line for nothing.
-pub fn put(buf: &mut [u8], at: usize, line: &[u8]) -> usize {
-    if which(line, b"repeat") != 0 {
-        return put_once(buf, at, line);
-    }
-    let again = rest(line, 2);
-    let mut left = number(line, 1);
-    let mut next = at;
-    while 0 < left {
-        next = put_once(buf, next, again);
-        left -= 1;
-    }
-    next
 }
 
 // Fills a buffer with bytes that repeat at no distance a test uses: each is 7 more than the last one, modulo 256, and after every 256
@@ -65,14 +46,12 @@ pub fn put(buf: &mut [u8], at: usize, line: &[u8]) -> usize {
 pub fn fill_pattern(buf: &mut [u8]) {
     let mut x: u8 = 1;
     let mut turn: u8 = 0;
-    let mut i = 0;
-    while i < buf.len() {
-        buf[i] = x;
+    for byte in buf {
+        *byte = x;
         x = x.wrapping_add(7);
         turn = turn.wrapping_add(1);
         if turn == 0 {
             x = x.wrapping_add(1);
         }
-        i += 1;
     }
 }

@@ -1,75 +1,38 @@
 // A line and its fields, which are parted by one space each and count from 0.
 
-const MOST: usize = 18446744073709551615;
-
 // The line from field k on, empty where there are fewer.
 pub fn rest(line: &[u8], k: usize) -> &[u8] {
-    let mut left = k;
-    let mut i = 0;
-    while i < line.len() {
-        if left == 0 {
-            return &line[i..];
-        }
-        if line[i] == b' ' {
-            left -= 1;
-        }
-        i += 1;
+    let mut left = line;
+    for _ in 0..k {
+        let Some(space) = left.iter().position(|b| *b == b' ') else {
+            return &[];
+        };
+        left = &left[space + 1..];
     }
-    &line[i..]
-}
-
-fn first_word(s: &[u8]) -> &[u8] {
-    let mut i = 0;
-    while i < s.len() {
-        if s[i] == b' ' {
-            return &s[0..i];
-        }
-        i += 1;
-    }
-    s
+    left
 }
 
 // Field k, empty where there are fewer.
 pub fn field(line: &[u8], k: usize) -> &[u8] {
-    first_word(rest(line, k))
-}
-
-// Which of the words, themselves fields of a line, the line's first field is; their length where it is none of them.
-pub fn which(line: &[u8], words: &[u8]) -> usize {
-    let mut k = 0;
-    while k < words.len() {
-        if field(line, 0) == field(words, k) {
-            return k;
-        }
-        k += 1;
-    }
-    k
-}
-
-fn wide(b: u8) -> usize {
-    b as usize
+    line.split(|b| *b == b' ').nth(k).unwrap_or(&[])
 }
 
 // The digits at the front of a text as a number, as many of them as 64 bits hold.
-fn decimal(s: &[u8]) -> usize {
-    let mut v: usize = 0;
-    let mut i = 0;
-    while i < s.len() {
-        let b = s[i];
-        if b < b'0' {
-            return v;
-        }
-        if b'9' < b {
-            return v;
-        }
-        let digit = wide(b - b'0');
-        if (MOST - digit) / 10 < v {
-            return v;
-        }
-        v = v * 10 + digit;
-        i += 1;
+fn decimal(text: &[u8]) -> usize {
+    let mut n: usize = 0;
+    for byte in text {
+        let Some(digit) = char::from(*byte).to_digit(10) else {
+            return n;
+        };
+        let Some(longer) = n
+            .checked_mul(10)
+            .and_then(|m| m.checked_add(digit as usize))
+        else {
+            return n;
+        };
+        n = longer;
     }
-    v
+    n
 }
 
 // Field k as a number, 0 where there is none.

@@ -1,24 +1,21 @@
 // The input that describes cases, and what is printed of them.
-ghost use Rattle.std.specs.Prelude.{◌≤◌, length};
-
+use std::alloc::Global;
+use std::fmt;
 use std::io::Read;
 
 // The most bytes of input that are read.
-pub const INPUT_ROOM: usize = 65536;
+const INPUT_ROOM: u64 = 65536;
 
-// Reads until the buffer is full, the input ends or a read fails, and answers how many bytes that came to.
-pub fn read_full(input: &mut impl Read, buf: &mut [u8]) -> usize
-    ensures { result ≤ length buf.new }
-{
-    let mut n = 0;
-    while n < buf.len() {
-        match input.read(&mut buf[n..]) {
-            Ok(0) => return n,
-            Ok(more) => n += more,
-            Err(_) => return n,
-        }
-    }
-    n
+// Reads until there is no room, the input ends or a read fails.
+pub fn read_full(alloc: Global, input: impl Read + Drop, room: u64) -> Vec<u8> {
+    let mut bytes = Vec::new(alloc);
+    let _ = input.take(room).read_to_end(&mut bytes);
+    bytes
+}
+
+// Standard input.
+pub fn read_input(alloc: Global, rt: &impl Input) -> Vec<u8> {
+    read_full(alloc, rt.reader(), INPUT_ROOM)
 }
 
 // What cannot be printed is missing where the output is compared, and is told nowhere else.
@@ -26,12 +23,15 @@ pub fn say(out: &impl Print, bytes: &[u8]) {
     let _ = out.write_all(bytes);
 }
 
-// A number in decimal.
-pub fn say_number(out: &impl Print, n: usize) {
-    let _ = print!(out; "{n}");
-}
+// Bytes that are printed as hexadecimal digits.
+#[derive(Clone, Copy)]
+pub struct Hex<'a>(pub &'a [u8]);
 
-// A byte as two hexadecimal digits.
-pub fn say_hex(out: &impl Print, byte: u8) {
-    let _ = print!(out; "{byte:02x}");
+impl fmt::Display for Hex<'_> {
+    fn fmt<W: fmt::Write>(&self, f: &mut fmt::Formatter<W>) -> fmt::Result {
+        for byte in self.0 {
+            write!(f, "{byte:02x}")?;
+        }
+        Ok(())
+    }
 }

@@ -34,7 +34,6 @@ use Rattle.updater.specs.Steps.{Config}
 use Rattle.updater.specs.Run.{halts_at, machine}
 use Rattle.updater.specs.Calls.{lengths_at, is_run, outcome_of, leaves}
 use Rattle.restart.specs.Writes.{Spot, AreasOutside, Agree, spots}
-use Rattle.updater.specs.declared.Outcome.TheVariants as outcome
 use Rattle.updater.proofs.FitLaws.{fits-sound}
 use Rattle.restart.proofs.OutsideLaws.{areas-wider}
 use Rattle.restart.proofs.StopLaws.{stops-there}

@@ -15,8 +15,6 @@ use Rattle.text.proofs.ChoiceLaws.{bool}
 use Rattle.state.specs.Limits.{block_bytes}
 use Rattle.state.specs.Stashes.{Stash, size_at, younger}
 use Rattle.state.specs.Stretches.{is_stretch, stretch_blocks}
-use Rattle.state.specs.declared.stashes.Found.{Found}
-use Rattle.state.specs.declared.stashes.Found.TheVariants.{At, Nothing}
 use Rattle.state.proofs.StashLaws.{blocks_held-before}
 use Rattle.state.proofs.StretchLaws.{stretch_none}
 use Rattle.possible.specs.Possible.{found_stretch}
@@ -31,6 +29,7 @@ use Rattle.restart.specs.Writes.{nowhere, in_stash, stretch_writes, Outside}
 use Rattle.restart.proofs.OutsideLaws.{outside-same, outside_wider, outside-none, outside_part, areas-same, areas-none, stash_changed}
 use Rattle.restart.proofs.OverwriteLaws.{Overwrites, overwritten_same, overwritten_only, overwrites_over, within, past-within, none_within, moved-is-over}
 use Rattle.restart.proofs.ReadLaws.{Reads, Sets, step_left, in_stash_lem}
+use Rattle.std.specs.Prelude.{Option, Some, None}
 
 module _ (xs : List Stash) (j k : ℕ) where
   abbrev gap : ℕ
@@ -110,22 +109,22 @@ module _ (xs : List Stash) (j k : ℕ) where
 -- ---- the step
 
 module _ (a : Areas) (xs : List Stash) (k : ℕ) where
-  pub free_reads : Keeps xs a.stash → (f : Found) → Reads step_left (stretch_writes xs k f) a (λ b. free_step xs k b f)
+  pub free_reads : Keeps xs a.stash → (f : Option ℕ) → Reads step_left (stretch_writes xs k f) a (λ b. free_step xs k b f)
   unfolding stretch_writes free_step in_stash nowhere
-  free_reads kept (At j) =
+  free_reads kept (Some j) =
       record {
         only = stash_changed _ a (stretch_only xs j k a.stash kept);
         same = λ b d.
-            subst (λ (x : Areas). free_step xs k x (At j) ≡ free_step xs k a (At j)) (sym (in_stash_lem _ _ a b d))
+            subst (λ (x : Areas). free_step xs k x (Some j) ≡ free_step xs k a (Some j)) (sym (in_stash_lem _ _ a b d))
             (ap (λ (stash : List ℕ). stepped (with_stash a stash) (free_end xs j k)) (stretch_same xs j k a.stash b.stash kept d.stash));
       }
-  free_reads kept Nothing =
+  free_reads kept None =
       record { only = areas-same _ a; same = λ b d. ap (λ (x : Areas). stepped x Passed) (areas-none nowhere a b (λ i. refl) d) }
 
   -- with no stretch to move
-  pub free_sets : (f : Found) → found_stretch xs k f ≡ false → Sets (stretch_writes xs k f) a (λ b. free_step xs k b f)
+  pub free_sets : (f : Option ℕ) → found_stretch xs k f ≡ false → Sets (stretch_writes xs k f) a (λ b. free_step xs k b f)
   unfolding stretch_writes free_step found_stretch in_stash nowhere
-  free_sets (At j) h =
+  free_sets (Some j) h =
       let none = no_stretch xs j k h in
       record {
         only = rw (stretched-none xs j k none a.stash) (areas-same _ a);
@@ -141,4 +140,4 @@ module _ (a : Areas) (xs : List Stash) (k : ℕ) where
               patch = d.patch;
             };
       }
-  free_sets Nothing h = record { only = areas-same _ a; ends = λ b. refl; agree = λ L b d. d }
+  free_sets None h = record { only = areas-same _ a; ends = λ b. refl; agree = λ L b d. d }

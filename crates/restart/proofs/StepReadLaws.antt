@@ -16,8 +16,6 @@ use Rattle.state.specs.Refusals.{none}
 use Rattle.state.specs.Stashes.{Stash, find_in, size_at, younger}
 use Rattle.state.specs.States.{is_ready}
 use Rattle.state.specs.Stretches.{is_stretch}
-use Rattle.state.specs.declared.stashes.Found.{Found}
-use Rattle.state.specs.declared.stashes.Found.TheVariants.{At, Nothing}
 use Rattle.command.specs.Filling.{fills}
 use Rattle.command.specs.declared.Command.{Command}
 use Rattle.command.specs.declared.Command.TheVariants as command
@@ -37,6 +35,7 @@ use Rattle.restart.proofs.OverwriteLaws.{overwritten_outside, overwritten_only, 
 use Rattle.restart.proofs.ReadLaws.{Reads, Sets, step_left}
 use Rattle.restart.proofs.FillLaws.{fills-reads}
 use Rattle.restart.proofs.FreeLaws.{free_reads, free_sets}
+use Rattle.std.specs.Prelude.{Option, Some, None}
 
 -- a `move`, a `bsdiff`, a `stash`, or a `free` with a stretch to move
 abbrev pub reads_bytes : List Stash → ℕ → List ℕ → Command → Bool
@@ -116,14 +115,14 @@ module _ (a : Areas) (l hash : List ℕ) (xs : List Stash) (ready k : ℕ) where
       picks (λ (s : Stepped). is_last s.end ≡ true) (is_ready ready) _ _ (λ t. refl)
       (λ t. picks (λ (s : Stepped). is_last s.end ≡ true) (is_finished l hash c a.image) _ _ (λ u. refl) (λ u. filling_last (filled l xs hash c a)))
 
-  free_last : (f : Found) → found_stretch xs k f ≡ true → is_last (free_step xs k a f).end ≡ true
+  free_last : (f : Option ℕ) → found_stretch xs k f ≡ true → is_last (free_step xs k a f).end ≡ true
   unfolding free_step found_stretch is_last
-  free_last (At j) h = rw h (go (is_stretch (size_at xs j) (younger xs j) (k + 1)))
+  free_last (Some j) h = rw h (go (is_stretch (size_at xs j) (younger xs j) (k + 1)))
     where
       go : (t : Bool) → is_last (pick t Stretched Ended) ≡ true
       go true = refl
       go false = refl
-  free_last Nothing h = absurd (never (sym h))
+  free_last None h = absurd (never (sym h))
 
   pub step-last : (c : Command) → reads_bytes xs k hash c ≡ true → is_last (step_of l xs hash c ready k a).end ≡ true
   unfolding step_of fills frees_on

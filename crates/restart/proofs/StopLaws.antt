@@ -9,8 +9,6 @@ use Rattle.text.specs.Choice.{pick}
 use Rattle.text.proofs.ChoiceLaws.{bool}
 use Rattle.state.specs.Stashes.{Stash, find_in, size_at, younger}
 use Rattle.state.specs.Stretches.{is_stretch}
-use Rattle.state.specs.declared.stashes.Found.{Found}
-use Rattle.state.specs.declared.stashes.Found.TheVariants.{At, Nothing}
 use Rattle.state.proofs.StretchLaws.{stretch_before}
 use Rattle.command.specs.Filling.{fills}
 use Rattle.command.specs.declared.Command.{Command}
@@ -23,6 +21,7 @@ use Rattle.updater.specs.declared.commands.StepEnd.{StepEnd}
 use Rattle.updater.specs.declared.commands.StepEnd.TheVariants.{Passed, Ended, Filled, Stretched, Refused}
 use Rattle.restart.specs.Restart.{StopsThere}
 use Rattle.restart.proofs.StepReadLaws.{reads_bytes, is_last, step-last}
+use Rattle.std.specs.Prelude.{Option, Some, None}
 
 -- a step that is the last one before a stop or a refusal, and is not refused
 unrefused-stops : (e : StepEnd) → is_last e ≡ true → ((number : ℕ) → e ≡ Refused number → ⊥) → stops_after e ≡ true
@@ -34,14 +33,14 @@ unrefused-stops Stretched h n = refl
 unrefused-stops (Refused number) h n = absurd (n number refl)
 
 module _ (a : Areas) (l hash : List ℕ) (xs : List Stash) (ready k : ℕ) where
-  free_passes : (f : Found) → found_stretch xs k f ≡ false → (free_step xs k a f).end ≡ Passed
+  free_passes : (f : Option ℕ) → found_stretch xs k f ≡ false → (free_step xs k a f).end ≡ Passed
   unfolding free_step found_stretch
-  free_passes (At j) h = rw h (go (is_stretch (size_at xs j) (younger xs j) (k + 1)) (λ t. never (sym (stretch_before (size_at xs j) (younger xs j) k t) ∙ h)))
+  free_passes (Some j) h = rw h (go (is_stretch (size_at xs j) (younger xs j) (k + 1)) (λ t. never (sym (stretch_before (size_at xs j) (younger xs j) k t) ∙ h)))
     where
       go : (t : Bool) → (t ≡ true → ⊥) → pick t Stretched Passed ≡ Passed
       go true n = absurd (n refl)
       go false n = refl
-  free_passes Nothing h = refl
+  free_passes None h = refl
 
   step-passes : (c : Command) → reads_bytes xs k hash c ≡ false → (step_of l xs hash c ready k a).end ≡ Passed
   unfolding step_of fills frees_on

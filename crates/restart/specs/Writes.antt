@@ -1,7 +1,7 @@
 -- Document 02, R-9: the bytes that the rules have the run write, step by step; and two configurations that agree at all other bytes. At a cut
 -- the bytes that are written from the saved stop, or the opening, to the next stop or the run's end may hold anything.
 -- Assumes nothing: these are definitions.
-use Rattle.std.specs.Prelude.{ℕ, ◌+◌, ◌*◌, ◌/◌, ◌≡◌, Bool, false, List, leb, ltb, eqb, length, get_or}
+use Rattle.std.specs.Prelude.{ℕ, ◌+◌, ◌*◌, ◌/◌, ◌≡◌, Bool, false, List, leb, ltb, eqb, length, get_or, Option, Some, None}
 use Rattle.text.specs.Choice.{pick, both}
 use Rattle.ranges.specs.Walk.{blocks_at}
 use Rattle.ranges.specs.declared.RangeSet.{RangeSet}
@@ -10,8 +10,6 @@ use Rattle.state.specs.Refusals.{none}
 use Rattle.state.specs.Stashes.{Stash, held, find_in, size_at, blocks_held, younger}
 use Rattle.state.specs.States.{is_ready}
 use Rattle.state.specs.Stretches.{stretch_blocks}
-use Rattle.state.specs.declared.stashes.Found.{Found}
-use Rattle.state.specs.declared.stashes.Found.TheVariants.{At, Nothing}
 use Rattle.command.specs.Commands.{command_of}
 use Rattle.command.specs.Patching.{patching_of}
 use Rattle.command.specs.declared.Command.{Command}
@@ -101,9 +99,9 @@ fill_step_writes l held hash c ready a =
     (pick (is_finished l hash c a.image) nowhere (fill_writes l held hash c a))
 
 -- stretch k of a `free`: the blocks that receive it
-unfoldable pub stretch_writes : List Stash → ℕ → Found → Spot → Bool
-stretch_writes held k (At j) = in_stash (stretch_start held j k) (stretch_blocks (size_at held j) (younger held j) k)
-stretch_writes held k Nothing = nowhere
+unfoldable pub stretch_writes : List Stash → ℕ → Option ℕ → Spot → Bool
+stretch_writes held k (Some j) = in_stash (stretch_start held j k) (stretch_blocks (size_at held j) (younger held j) k)
+stretch_writes held k None = nowhere
 
 -- a command's next step; the bytes of a `new` are written one by one
 unfoldable pub step_writes : List ℕ → List Stash → List ℕ → Command → ℕ → ℕ → Areas → Spot → Bool

@@ -14,17 +14,16 @@ use Rattle.state.specs.Stashes.{Stash}
 use Rattle.command.specs.declared.Command.{Command}
 use Rattle.command.specs.declared.Command.TheVariants as command
 use Rattle.command.specs.declared.source.Source.{Source}
-use Rattle.command.specs.declared.faults.Fault.{Fault}
-use Rattle.command.specs.declared.faults.Fault.TheVariants as fault
 use Rattle.command.specs.Faults.{fault_of}
 use Rattle.command.specs.Patching.{patching_of}
 use Rattle.rules.specs.Move.{sourced_rows, sourced_refusal, move_refusal, target_differs, over_result, patch_past, patch_refusal, bsdiff_refusal}
 use Rattle.rules.specs.Rules.{target_rows, stash_rows, stash_refusal, free_rows, free_refusal, refusal_for}
 use Rattle.rules.specs.declared.Terms.{Terms}
+use Rattle.std.specs.Prelude.{Option, None}
 
 -- a command without a fault, and a number that reports no byte
-pub record NoForm (f : Fault) (n : ℕ) : Type 0 where
-  pub none : f ≡ fault.None
+pub record NoForm (f : Option ℕ) (n : ℕ) : Type 0 where
+  pub none : f ≡ None
   pub number : has_byte n ≡ false
 
 module _ (l : List ℕ) (terms : Terms) (held : List Stash) where

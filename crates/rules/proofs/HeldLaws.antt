@@ -12,9 +12,8 @@ use Rattle.ranges.specs.Ranges.{least_blocks}
 use Rattle.ranges.specs.declared.RangeSet.{RangeSet}
 use Rattle.state.specs.Limits.{most_stashes}
 use Rattle.state.specs.Refusals.{none}
-use Rattle.state.specs.Stashes.{Stash, Table, Whole, held_in, find_in, held_twice, holds_empty, blocks_held}
-use Rattle.state.specs.declared.stashes.Found.{Found}
-use Rattle.state.specs.declared.stashes.Found.TheVariants.{At, Nothing}
+use Rattle.state.specs.Stashes.{Stash, Whole, held_in, find_in, held_twice, holds_empty, blocks_held}
+use Rattle.state.specs.declared.stashes.Table.{Table}
 use Rattle.state.proofs.StashLaws.{blocks_held-append, blocks_held-without, twice_append, twice_without, holds_empty-more, holds_empty-without}
 use Rattle.state.proofs.TableLaws.{whole-held, hold_held, hold_whole, release_held, release_whole}
 use Rattle.command.specs.Commands.{command_of}
@@ -25,17 +24,18 @@ use Rattle.rules.specs.Held.{drop_found, held_after, release_found, table_after}
 use Rattle.rules.specs.Rules.{refusal_for}
 use Rattle.rules.specs.declared.Terms.{Terms}
 use Rattle.rules.proofs.RuleLaws.{stash-fits, not-unsupported, not-bad}
+use Rattle.std.specs.Prelude.{Option, Some, None}
 
 -- ---- in the table
 
 module _ (l : List ℕ) (terms : Terms) (t : Table) (hash : List ℕ) (w : Whole t) where
-  released_held : (f : Found) → held_in (release_found t f) ≡ drop_found (held_in t) f
-  released_held (At j) = release_held t j w
-  released_held Nothing = refl
+  released_held : (f : Option ℕ) → held_in (release_found t f) ≡ drop_found (held_in t) f
+  released_held (Some j) = release_held t j w
+  released_held None = refl
 
-  released_whole : (f : Found) → Whole (release_found t f)
-  released_whole (At j) = release_whole t j w
-  released_whole Nothing = w
+  released_whole : (f : Option ℕ) → Whole (release_found t f)
+  released_whole (Some j) = release_whole t j w
+  released_whole None = w
 
   module _ (most : terms.stashes ≤ most_stashes) (size : length hash ≡ hash_bytes) where
     pub held_after_lem : (c : Command) → refusal_for l terms (held_in t) hash c ≡ none → held_in (table_after t hash c) ≡ held_after (held_in t) hash c
@@ -92,9 +92,9 @@ module _ (l : List ℕ) (terms : Terms) (stashes : List Stash) (hash : List ℕ)
       omega (arith, f.room, blocks_held-append stashes (record { hash = hash; blocks = set.blocks } ∷ []))
   held-blocks command.Free e h = go (find_in stashes hash)
     where
-      go : (f : Found) → blocks_held (drop_found stashes f) ≤ terms.blocks
-      go (At j) = omega (arith, blocks_held-without stashes j)
-      go Nothing = h
+      go : (f : Option ℕ) → blocks_held (drop_found stashes f) ≤ terms.blocks
+      go (Some j) = omega (arith, blocks_held-without stashes j)
+      go None = h
   held-blocks command.Unsupported e h = h
   held-blocks (command.Bad p) e h = h
 
@@ -111,9 +111,9 @@ module _ (l : List ℕ) (terms : Terms) (stashes : List Stash) (hash : List ℕ)
       twice_append stashes (record { hash = hash; blocks = set.blocks }) h (stash-fits l terms stashes hash e refl).unheld
   after-once command.Free e h = go (find_in stashes hash)
     where
-      go : (f : Found) → held_twice (drop_found stashes f) ≡ false
-      go (At j) = twice_without stashes j h
-      go Nothing = h
+      go : (f : Option ℕ) → held_twice (drop_found stashes f) ≡ false
+      go (Some j) = twice_without stashes j h
+      go None = h
   after-once command.Unsupported e h = h
   after-once (command.Bad p) e h = h
 
@@ -129,9 +129,9 @@ module _ (stashes : List Stash) (hash : List ℕ) (h : holds_empty stashes ≡ f
   command-keeps (command.Stash set) some = holds_empty-more stashes hash set.blocks h (some set refl)
   command-keeps command.Free some = go (find_in stashes hash)
     where
-      go : (f : Found) → holds_empty (drop_found stashes f) ≡ false
-      go (At j) = holds_empty-without stashes j h
-      go Nothing = h
+      go : (f : Option ℕ) → holds_empty (drop_found stashes f) ≡ false
+      go (Some j) = holds_empty-without stashes j h
+      go None = h
   command-keeps command.Unsupported some = h
   command-keeps (command.Bad p) some = h
 

@@ -2,5 +2,8 @@ pub mod BoundLaws
 pub mod PlaceLaws
 pub mod RuleLaws
 pub mod HeldLaws
+pub mod SourceLaws
+pub mod UseLaws
+pub mod RangeLaws
 pub mod FormLaws
 pub mod CoverLaws

@@ -1,15 +1,14 @@
 -- Document 01, "The list text" and "The stash area": the stashes that are held after a command.
 -- Assumes nothing: these are definitions.
-use Rattle.std.specs.Prelude.{ℕ, List, [], ◌∷◌, ◌++◌}
-use Rattle.state.specs.Stashes.{Stash, Table, held_in, find_in, without, holding, releasing}
-use Rattle.state.specs.declared.stashes.Found.{Found}
-use Rattle.state.specs.declared.stashes.Found.TheVariants.{At, Nothing}
+use Rattle.std.specs.Prelude.{ℕ, List, [], ◌∷◌, ◌++◌, Option, Some, None}
+use Rattle.state.specs.Stashes.{Stash, held_in, find_in, without, holding, releasing}
+use Rattle.state.specs.declared.stashes.Table.{Table}
 use Rattle.command.specs.declared.Command.{Command}
 use Rattle.command.specs.declared.Command.TheVariants as command
 
-abbrev pub drop_found : List Stash → Found → List Stash
-drop_found held (At j) = without held j
-drop_found held Nothing = held
+abbrev pub drop_found : List Stash → Option ℕ → List Stash
+drop_found held (Some j) = without held j
+drop_found held None = held
 
 -- `stash` holds its hash, last; `free` drops its own
 unfoldable pub held_after : List Stash → List ℕ → Command → List Stash
@@ -23,9 +22,9 @@ held_after held hash command.Free = drop_found held (find_in held hash)
 held_after held hash command.Unsupported = held
 held_after held hash (command.Bad p) = held
 
-abbrev pub release_found : Table → Found → Table
-release_found t (At j) = releasing t j
-release_found t Nothing = t
+abbrev pub release_found : Table → Option ℕ → Table
+release_found t (Some j) = releasing t j
+release_found t None = t
 
 -- the same in the table that a state keeps
 unfoldable pub table_after : Table → List ℕ → Command → Table

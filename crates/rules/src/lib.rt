@@ -1,20 +1,19 @@
 // One line checked against what is held.
 #![tactic(auto)]
 
-ghost use Rattle.std.specs.Prelude.{◌≡◌, List, ℕ};
+ghost use Rattle.std.specs.Prelude.{◌≡◌};
 ghost use Rattle.ranges.specs.Ranges.{least_blocks};
-ghost use Rattle.state.specs.Stashes.{table_at, held_in};
-ghost use Rattle.rules.specs.Rules.{target_refusal, too_much, stash_refusal, free_refusal, refusal_for, checked_of};
+ghost use Rattle.state.specs.Refusals.{checked_number};
+ghost use Rattle.state.specs.Stashes.{held_in};
+ghost use Rattle.rules.specs.Rules.{target_refusal, too_much, stash_refusal, free_refusal, refusal_for, checked_as, checked_of};
 
-use crate::moves::{check_bsdiff, check_move, work_blocks};
+use crate::moves::{Sourced, check_bsdiff, check_move, work_blocks};
 use command::{Command, Line, read_command};
 use marks::MARK_BYTES;
 use ranges::RangeSet;
-use state::limits::{HASH_BYTES, MOST_STASHES, TABLE_BYTES};
-use state::refusals::{
-    HELD_ALREADY, LINE_FORM, NO_ROOM, NOT_HELD, PAST_AREA, PAST_IMAGE, UNSUPPORTED,
-};
-use state::stashes::{Found, blocks_before, find_stash, held_count};
+use state::limits::{HASH_BYTES, MOST_STASHES};
+use state::refusals::Reason;
+use state::stashes::Table;
 use state::sums::bounded_sum;
 
 pub mod held;
@@ -33,135 +32,113 @@ pub struct Terms {
     pub blocks: u32,
 }
 
-// A line read, and the number it is refused with, 0 for none.
+// A line read, and why it is refused.
 #[derive(Clone, Copy)]
 pub struct Checked {
     pub line: Line,
-    pub refusal: usize,
+    pub refusal: Result<(), Reason>,
 }
 
-fn check_target(terms: Terms, set: RangeSet) -> usize
-    ensures { result ≡ target_refusal terms set }
+fn check_target(terms: Terms, set: RangeSet) -> Result<(), Reason>
+    ensures { checked_number result ≡ target_refusal terms set }
 {
     if terms.image < set.end as usize {
-        return PAST_IMAGE;
+        return Err(Reason::PastImage);
     }
-    0
+    Ok(())
 }
 
 // Holding as many blocks more would pass line 3 or line 4.
-fn is_too_much(terms: Terms, sizes: &[usize; MOST_STASHES], count: usize, set: RangeSet) -> bool
-    ensures { (hashes : List ℕ) → result ≡ too_much terms (held_in (table_at hashes sizes.now count)) set }
+#[tactic(auto, using(std::proofs::lemmas::Grind::common_steps, crate::proofs::BoundLaws::held_length, crate::proofs::BoundLaws::ltb_blocks))]
+fn is_too_much(terms: Terms, table: &Table, set: RangeSet) -> bool
+    ensures { result ≡ too_much terms (held_in table.now) set }
 {
-    if terms.stashes as usize <= held_count(count) {
-        return true;
-    }
-    (terms.blocks as usize) < bounded_sum(blocks_before(sizes, count, MOST_STASHES), set.blocks)
+    terms.stashes as usize <= table.held_count()
+        || (terms.blocks as usize) < bounded_sum(table.blocks_before(MOST_STASHES), set.blocks)
 }
 
-#[tactic(auto, unfolding(crate::specs::Rules::stash_refusal))]
-fn check_stash<'a>(
+#[tactic(auto, using(state::proofs::StashLaws::find_held, state::proofs::StashLaws::find_nothing), unfolding(crate::specs::Rules::stash_refusal))]
+fn check_stash(
     terms: Terms,
-    hashes: &'a [u8; TABLE_BYTES],
-    sizes: &'a [usize; MOST_STASHES],
-    count: usize,
+    table: &Table,
     hash: [u8; HASH_BYTES],
     set: RangeSet,
-) -> usize
-    ensures { result ≡ stash_refusal terms (held_in (table_at hashes.now sizes.now count)) hash set }
+) -> Result<(), Reason>
+    ensures { checked_number result ≡ stash_refusal terms (held_in table.now) hash set }
 {
-    if terms.image < set.end as usize {
-        return PAST_IMAGE;
-    }
+    check_target(terms, set)?;
     if work_blocks(terms) < set.blocks {
-        return PAST_AREA;
+        return Err(Reason::PastArea);
     }
-    if let Found::At(_) = find_stash(hashes, count, hash) {
-        return HELD_ALREADY;
+    if table.find(hash).is_some() {
+        return Err(Reason::HeldAlready);
     }
-    if is_too_much(terms, sizes, count, set) {
-        return NO_ROOM;
+    if is_too_much(terms, table, set) {
+        return Err(Reason::NoRoom);
     }
-    0
+    Ok(())
 }
 
-fn check_free(hashes: &[u8; TABLE_BYTES], count: usize, hash: [u8; HASH_BYTES]) -> usize
-    ensures { (sizes : List ℕ) → result ≡ free_refusal (held_in (table_at hashes.now sizes count)) hash }
+#[tactic(auto, using(state::proofs::StashLaws::find_held, state::proofs::StashLaws::find_nothing), unfolding(crate::specs::Rules::free_refusal))]
+fn check_free(table: &Table, hash: [u8; HASH_BYTES]) -> Result<(), Reason>
+    ensures { checked_number result ≡ free_refusal (held_in table.now) hash }
 {
-    match find_stash(hashes, count, hash) {
-        Found::At(_) => 0,
-        Found::Nothing => NOT_HELD,
+    match table.find(hash) {
+        Some(_) => Ok(()),
+        None => Err(Reason::NotHeld),
     }
 }
 
-fn check_command<'a>(
+#[tactic(auto, unfolding(crate::specs::Rules::refusal_for))]
+fn check_command(
     l: &[u8],
     terms: Terms,
-    hashes: &'a [u8; TABLE_BYTES],
-    sizes: &'a [usize; MOST_STASHES],
-    count: usize,
+    table: &Table,
     marks: &mut [u8; MARK_BYTES],
     line: Line,
-) -> usize
-    ensures { result ≡
-        refusal_for l.now terms (held_in (table_at hashes.now sizes.now count)) line.hash line.command }
+) -> Result<(), Reason>
+    ensures { checked_number result ≡ refusal_for l.now terms (held_in table.now) line.hash line.command }
 {
-    let command = line.command;
-    let hash = line.hash;
-    match command {
-        Command::Zero(set) => check_target(terms, set),
-        Command::Erase(set) => check_target(terms, set),
-        Command::New(set) => check_target(terms, set),
+    match line.command {
+        Command::Zero(set) | Command::Erase(set) | Command::New(set) => check_target(terms, set),
         Command::Move {
             target,
             length,
             source,
-        } => check_move(
-            l,
-            terms,
-            hashes,
-            sizes,
-            count,
-            marks,
-            target,
-            length as usize,
-            source,
-        ),
+        } => {
+            let sourced = Sourced {
+                target,
+                length,
+                source,
+            };
+            check_move(l, terms, table, marks, sourced)
+        }
         Command::Bsdiff {
             target,
             length,
             source,
-        } => check_bsdiff(
-            l,
-            terms,
-            hashes,
-            sizes,
-            count,
-            marks,
-            target,
-            length as usize,
-            source,
-        ),
-        Command::Stash(set) => check_stash(terms, hashes, sizes, count, hash, set),
-        Command::Free => check_free(hashes, count, hash),
-        Command::Unsupported => UNSUPPORTED,
-        Command::Bad(_) => LINE_FORM,
+        } => {
+            let sourced = Sourced {
+                target,
+                length,
+                source,
+            };
+            check_bsdiff(l, terms, table, marks, sourced)
+        }
+        Command::Stash(set) => check_stash(terms, table, line.hash, set),
+        Command::Free => check_free(table, line.hash),
+        Command::Unsupported => Err(Reason::Unsupported),
+        Command::Bad(_) => Err(Reason::LineForm),
     }
 }
 
 // A line that is handed over as its part of the text, checked against the table of the stashes held. The marks are room to check places in:
 // what they hold before and after is free, and no answer depends on it.
-pub fn check_line<'a>(
-    l: &[u8],
-    terms: Terms,
-    hashes: &'a [u8; TABLE_BYTES],
-    sizes: &'a [usize; MOST_STASHES],
-    count: usize,
-    marks: &mut [u8; MARK_BYTES],
-) -> Checked
-    ensures { result ≡ checked_of least_blocks l.now terms (held_in (table_at hashes.now sizes.now count)) }
+#[tactic(auto, unfolding(crate::specs::Rules::refusal_of, crate::specs::Rules::checked_of))]
+pub fn check_line(l: &[u8], terms: Terms, table: &Table, marks: &mut [u8; MARK_BYTES]) -> Checked
+    ensures { checked_as result ≡ checked_of least_blocks l.now terms (held_in table.now) }
 {
     let line = read_command(l);
-    let refusal = check_command(l, terms, hashes, sizes, count, marks, line);
+    let refusal = check_command(l, terms, table, marks, line);
     Checked { line, refusal }
 }

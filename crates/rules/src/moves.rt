@@ -1,64 +1,51 @@
 // The rules of a `move` and of a `bsdiff`.
-ghost use Rattle.std.specs.Prelude.{◌≡◌, List, ℕ, ◌<◌};
-ghost use Rattle.state.specs.Stashes.{Stash, table_at, held_in};
-ghost use Rattle.state.specs.Sums.{bound};
+ghost use Rattle.std.specs.Prelude.{◌≡◌, List, ℕ};
+ghost use Rattle.state.specs.Refusals.{checked_number};
+ghost use Rattle.state.specs.Stashes.{Stash, held_in};
 ghost use Rattle.command.specs.Parts.{uses_at};
-ghost use Rattle.rules.specs.Move.{work_blocks, size_found, source_past, source_over, uses_by, source_differs, sourced_refusal, move_refusal, patch_past, bsdiff_refusal};
+ghost use Rattle.rules.specs.Move.{work_blocks, blocks_of, uses_by, source_differs, sourced_refusal, move_refusal, patch_past, bsdiff_refusal};
 ghost use Rattle.rules.specs.Sums.{sums_of, sums_with};
 
-use crate::Terms;
 use crate::places::places_fit;
-use command::parts::{PartRead, read_part};
+use crate::{Terms, check_target};
+use command::parts::read_part;
 use command::patching::{Patching, read_patching};
 use command::source::Source;
 use marks::MARK_BYTES;
 use ranges::{LEAST_AGAIN, RangeSet};
-use state::limits::{HASH_BYTES, MOST_AREA_BLOCKS, MOST_STASHES, TABLE_BYTES};
-use state::refusals::{MISPLACED, NOT_HELD, PAST_AREA, PAST_IMAGE, PAST_PATCH, SIZES_DIFFER};
-use state::stashes::{Found, find_stash, stash_blocks};
+use state::limits::{HASH_BYTES, MOST_AREA_BLOCKS};
+use state::refusals::Reason;
+use state::stashes::Table;
 use state::sums::bounded_sum;
+
+// What a `move` and a `bsdiff` have in common: a target, N and a source.
+#[derive(Clone, Copy)]
+pub(crate) struct Sourced {
+    pub target: RangeSet,
+    pub length: u32,
+    pub source: Source,
+}
 
 // The work area's blocks; none is larger than the limit.
 pub(crate) fn work_blocks(terms: Terms) -> usize
     ensures { result ≡ work_blocks terms }
 {
-    let work = terms.work;
-    if MOST_AREA_BLOCKS < work {
-        MOST_AREA_BLOCKS
-    } else {
-        work
-    }
+    terms.work.min(MOST_AREA_BLOCKS)
 }
 
-fn source_past(terms: Terms, source: Source) -> bool
-    ensures { result ≡ source_past terms source }
+// The blocks of the image that a source has.
+#[tactic(auto, unfolding(crate::specs::Move::blocks_of))]
+fn blocks_of(source: Source) -> Option<RangeSet>
+    ensures { result ≡ blocks_of source }
 {
     match source {
-        Source::Blocks(set) => terms.image < set.end as usize,
-        Source::Stashes(_) => false,
-        Source::Both {
-            blocks,
-            places: _,
-            first: _,
-        } => terms.image < blocks.end as usize,
+        Source::Blocks(blocks) | Source::Both { blocks, .. } => Some(blocks),
+        Source::Stashes(_) => None,
     }
 }
 
-fn source_over(terms: Terms, source: Source) -> bool
-    ensures { result ≡ source_over terms source }
-{
-    match source {
-        Source::Blocks(set) => work_blocks(terms) < set.blocks,
-        Source::Stashes(_) => false,
-        Source::Both {
-            blocks,
-            places: _,
-            first: _,
-        } => work_blocks(terms) < blocks.blocks,
-    }
-}
-
-// What the stashes that a source names come to: one is not held, one differs from its L, and all their places together.
+// What the stashes that a source names come to: one is not held, one differs from its L, and all their places together. The three are wanted in
+// an order of their own (10, 11), so no one of them stands for the others.
 #[derive(Clone, Copy)]
 struct Sums {
     missing: bool,
@@ -66,242 +53,152 @@ struct Sums {
     places: usize,
 }
 
-// The blocks of a stash that was looked for; 0 where it is not held.
-fn found_blocks(sizes: &[usize; MOST_STASHES], count: usize, found: Found) -> usize
-    ensures { (hashes : List ℕ) → result ≡ size_found (held_in (table_at hashes sizes.now count)) found }
-{
-    match found {
-        Found::At(j) => stash_blocks(sizes, count, j),
-        Found::Nothing => 0,
-    }
-}
+const NO_SUMS: Sums = Sums {
+    missing: false,
+    differs: false,
+    places: 0,
+};
 
 // The sums with one stash more, named with as many places.
-fn add_stash<'a>(
-    sums: Sums,
-    hashes: &'a [u8; TABLE_BYTES],
-    sizes: &'a [usize; MOST_STASHES],
-    count: usize,
-    hash: [u8; HASH_BYTES],
-    places: usize,
-) -> Sums
-    ensures { result ≡ sums_with sums (held_in (table_at hashes.now sizes.now count)) hash places }
+#[tactic(auto, using(state::proofs::StashLaws::find_held, state::proofs::StashLaws::find_nothing), unfolding(crate::specs::Sums::sums_with, crate::specs::Move::stash_blocks))]
+fn add_stash(sums: Sums, table: &Table, hash: [u8; HASH_BYTES], places: usize) -> Sums
+    ensures { result ≡ sums_with sums (held_in table.now) hash places }
 {
-    let total = bounded_sum(sums.places, places);
-    let found = find_stash(hashes, count, hash);
-    let differs = if found_blocks(sizes, count, found) == places {
-        sums.differs
-    } else {
-        true
-    };
-    match found {
-        Found::Nothing => Sums {
-            missing: true,
-            differs,
-            places: total,
-        },
-        Found::At(_) => Sums {
-            missing: sums.missing,
-            differs,
-            places: total,
-        },
+    let found = table.find(hash);
+    let size = found.map_or(0, |j| table.blocks(j));
+    Sums {
+        missing: sums.missing || found.is_none(),
+        differs: sums.differs || size != places,
+        places: bounded_sum(sums.places, places),
     }
 }
 
-fn sum_stashes<'a>(
-    l: &[u8],
-    first: usize,
-    hashes: &'a [u8; TABLE_BYTES],
-    sizes: &'a [usize; MOST_STASHES],
-    count: usize,
-) -> Sums
-    ensures { result ≡
-        sums_of (held_in (table_at hashes.now sizes.now count)) (uses_at l.now first) }
+fn sum_stashes(l: &[u8], first: usize, table: &Table) -> Sums
+    ensures { result ≡ sums_of (held_in table.now) (uses_at l.now first) }
 {
-    let mut sums = Sums {
-        missing: false,
-        differs: false,
-        places: 0,
-    };
-    let mut at = first;
-    loop {
-        let part = read_part(l, at, LEAST_AGAIN);
-        let hash = part.hash;
-        let read = part.read;
-        match read {
-            PartRead::Bad(_) => {
-                return sums;
-            }
-            PartRead::Last(places, _) => {
-                return add_stash(sums, hashes, sizes, count, hash, places.blocks);
-            }
-            PartRead::More(places, next) => {
-                sums = add_stash(sums, hashes, sizes, count, hash, places.blocks);
-                at = next;
-            }
-        }
+    let mut sums = NO_SUMS;
+    let mut next = Some(first);
+    while let Some(at) = next {
+        let Ok(part) = read_part(l, at, LEAST_AGAIN) else {
+            return sums;
+        };
+        sums = add_stash(sums, table, part.hash, part.places.blocks);
+        next = part.next;
     }
+    sums
 }
 
-fn source_sums<'a>(
-    l: &[u8],
-    hashes: &'a [u8; TABLE_BYTES],
-    sizes: &'a [usize; MOST_STASHES],
-    count: usize,
-    source: Source,
-) -> Sums
-    ensures { result ≡
-        sums_of (held_in (table_at hashes.now sizes.now count)) (uses_by l.now source) }
+#[tactic(auto, unfolding(crate::specs::Move::uses_by, crate::specs::Move::some_missing, crate::specs::Move::some_differ, crate::specs::Move::places_named, crate::specs::Sums::sums_of))]
+fn source_sums(l: &[u8], table: &Table, source: Source) -> Sums
+    ensures { result ≡ sums_of (held_in table.now) (uses_by l.now source) }
 {
     match source {
-        Source::Blocks(_) => Sums {
-            missing: false,
-            differs: false,
-            places: 0,
-        },
-        Source::Stashes(first) => sum_stashes(l, first, hashes, sizes, count),
-        Source::Both {
-            blocks: _,
-            places: _,
-            first,
-        } => sum_stashes(l, first, hashes, sizes, count),
+        Source::Blocks(_) => NO_SUMS,
+        Source::Stashes(first) | Source::Both { first, .. } => sum_stashes(l, first, table),
     }
 }
 
 // 11 of a source, by the sums of the stashes that it names.
-fn source_differs(n: usize, source: Source, sums: Sums) -> bool
+#[tactic(auto, using(std::proofs::lemmas::Grind::common_steps, crate::proofs::BoundLaws::eqb_bounded, crate::proofs::BoundLaws::eqb_more), unfolding(crate::specs::Move::source_differs, crate::specs::Move::uses_by, crate::specs::Sums::sums_of))]
+fn source_differs(length: u32, source: Source, sums: Sums) -> bool
     ensures { (l : List ℕ) (held : List Stash) →
-        sums ≡ sums_of held (uses_by l source) → n < bound → result ≡ source_differs l held n source }
+        sums ≡ sums_of held (uses_by l source) → result ≡ source_differs l held length source }
 {
+    let n = length as usize;
     match source {
         Source::Blocks(set) => set.blocks != n,
-        Source::Stashes(_) => {
-            if sums.differs {
-                return true;
-            }
-            sums.places != n
-        }
-        Source::Both {
-            blocks,
-            places,
-            first: _,
-        } => {
-            if blocks.blocks != places.blocks {
-                return true;
-            }
-            if sums.differs {
-                return true;
-            }
-            bounded_sum(places.blocks, sums.places) != n
+        Source::Stashes(_) => sums.differs || sums.places != n,
+        Source::Both { blocks, places, .. } => {
+            blocks.blocks != places.blocks
+                || sums.differs
+                || bounded_sum(places.blocks, sums.places) != n
         }
     }
 }
 
-// 8 to 12 of a command with a target, N and a source, 0 for none. What is asked of the target's size differs by the command: `over` is its
-// 9, `differs` its 11.
-#[tactic(auto, unfolding(crate::specs::Move::sourced_refusal))]
-fn check_sourced<'a>(
+// 8 to 12 of a command with a target, N and a source. What is asked of the target's size differs by the command: `over` is its 9, `differs`
+// its 11. The text, the terms and the table stay three parameters: of a struct of them a contract speaks as `x.entry.l.now`.
+#[tactic(auto, using(std::proofs::lemmas::Grind::common_steps, crate::proofs::SourceLaws::past_by_blocks, crate::proofs::SourceLaws::over_by_blocks, crate::proofs::SourceLaws::missing_by_sums), unfolding(crate::specs::Move::sourced_refusal))]
+fn check_sourced(
     l: &[u8],
     terms: Terms,
-    hashes: &'a [u8; TABLE_BYTES],
-    sizes: &'a [usize; MOST_STASHES],
-    count: usize,
+    table: &Table,
     marks: &mut [u8; MARK_BYTES],
+    sourced: Sourced,
     over: bool,
     differs: bool,
-    target: RangeSet,
-    n: usize,
-    source: Source,
-) -> usize
-    requires { n < bound }
-    ensures { result ≡ sourced_refusal l.now terms (held_in (table_at hashes.now sizes.now count))
-        over differs target n source }
+) -> Result<(), Reason>
+    ensures { checked_number result ≡ sourced_refusal l.now terms (held_in table.now)
+        over differs sourced.target sourced.length sourced.source }
 {
-    if terms.image < target.end as usize {
-        return PAST_IMAGE;
+    let Sourced {
+        target,
+        length,
+        source,
+    } = sourced;
+    let n = length as usize;
+    let blocks = blocks_of(source);
+    check_target(terms, target)?;
+    if let Some(set) = blocks {
+        check_target(terms, set)?;
     }
-    if source_past(terms, source) {
-        return PAST_IMAGE;
+    let work = work_blocks(terms);
+    if over || work < n || blocks.is_some_and(|set| work < set.blocks) {
+        return Err(Reason::PastArea);
     }
-    if over {
-        return PAST_AREA;
-    }
-    if work_blocks(terms) < n {
-        return PAST_AREA;
-    }
-    if source_over(terms, source) {
-        return PAST_AREA;
-    }
-    let sums = source_sums(l, hashes, sizes, count, source);
+    let sums = source_sums(l, table, source);
     if sums.missing {
-        return NOT_HELD;
+        return Err(Reason::NotHeld);
     }
-    if differs {
-        return SIZES_DIFFER;
+    if differs || source_differs(length, source, sums) {
+        return Err(Reason::SizesDiffer);
     }
-    if source_differs(n, source, sums) {
-        return SIZES_DIFFER;
+    if !places_fit(l, n, source, marks) {
+        return Err(Reason::Misplaced);
     }
-    if places_fit(l, n, source, marks) {
-        return 0;
-    }
-    MISPLACED
+    Ok(())
 }
 
-// The lowest number that applies to a `move`, 0 for none.
-pub(crate) fn check_move<'a>(
+// The lowest number that applies to a `move`.
+#[tactic(auto, unfolding(crate::specs::Move::move_refusal))]
+pub(crate) fn check_move(
     l: &[u8],
     terms: Terms,
-    hashes: &'a [u8; TABLE_BYTES],
-    sizes: &'a [usize; MOST_STASHES],
-    count: usize,
+    table: &Table,
     marks: &mut [u8; MARK_BYTES],
-    target: RangeSet,
-    n: usize,
-    source: Source,
-) -> usize
-    requires { n < bound }
-    ensures { result ≡
-        move_refusal l.now terms (held_in (table_at hashes.now sizes.now count)) target n source }
+    sourced: Sourced,
+) -> Result<(), Reason>
+    ensures { checked_number result ≡
+        move_refusal l.now terms (held_in table.now) sourced.target sourced.length sourced.source }
 {
-    let differs = target.blocks != n;
-    check_sourced(
-        l, terms, hashes, sizes, count, marks, false, differs, target, n, source,
-    )
+    let differs = sourced.target.blocks != sourced.length as usize;
+    check_sourced(l, terms, table, marks, sourced, false, differs)
 }
 
 // The patch ends past the patch data.
+#[tactic(auto, unfolding(crate::specs::Move::patch_past))]
 fn is_past_patch(terms: Terms, patching: Patching) -> bool
     ensures { result ≡ patch_past terms patching }
 {
     terms.patch < patching.start as usize + patching.length as usize
 }
 
-// The lowest number that applies to a `bsdiff`, 0 for none.
-pub(crate) fn check_bsdiff<'a>(
+// The lowest number that applies to a `bsdiff`.
+#[tactic(auto, unfolding(crate::specs::Move::bsdiff_refusal))]
+pub(crate) fn check_bsdiff(
     l: &[u8],
     terms: Terms,
-    hashes: &'a [u8; TABLE_BYTES],
-    sizes: &'a [usize; MOST_STASHES],
-    count: usize,
+    table: &Table,
     marks: &mut [u8; MARK_BYTES],
-    target: RangeSet,
-    n: usize,
-    source: Source,
-) -> usize
-    requires { n < bound }
-    ensures { result ≡
-        bsdiff_refusal l.now terms (held_in (table_at hashes.now sizes.now count)) target n source }
+    sourced: Sourced,
+) -> Result<(), Reason>
+    ensures { checked_number result ≡
+        bsdiff_refusal l.now terms (held_in table.now) sourced.target sourced.length sourced.source }
 {
-    let over = terms.result < target.blocks;
-    let refusal = check_sourced(
-        l, terms, hashes, sizes, count, marks, over, false, target, n, source,
-    );
-    if refusal != 0 {
-        return refusal;
-    }
+    let over = terms.result < sourced.target.blocks;
+    check_sourced(l, terms, table, marks, sourced, over, false)?;
     if is_past_patch(terms, read_patching(l)) {
-        return PAST_PATCH;
+        return Err(Reason::PastPatch);
     }
-    0
+    Ok(())
 }

@@ -9,25 +9,20 @@ ghost use Rattle.command.specs.Parts.{uses_at};
 ghost use Rattle.rules.specs.Move.{places_of, source_misplaced};
 ghost use Rattle.rules.specs.Taken.{Takes};
 
-use command::parts::{PartRead, read_part};
+use command::parts::read_part;
 use command::source::Source;
 use marks::{MARK_BYTES, clear_marks, take_place};
 use ranges::LEAST_AGAIN;
-use ranges::walk::{Step, next_block, past_range, walk_from};
+use ranges::walk::{next_block, past_range, walk_from};
 
 // Takes the places from one up to another; false where one is at n or above, or taken already.
 fn take_range(from: usize, to: usize, n: usize, marks: &mut [u8; MARK_BYTES]) -> bool
     ensures { Takes n marks.old marks.new (span from (to - from)) result }
 {
-    let mut p = from;
-    while p < to {
-        if n <= p {
+    for p in from..to {
+        if n <= p || !take_place(marks, p) {
             return false;
         }
-        if !take_place(marks, p) {
-            return false;
-        }
-        p += 1;
     }
     true
 }
@@ -37,51 +32,30 @@ fn take_places(l: &[u8], at: usize, n: usize, marks: &mut [u8; MARK_BYTES]) -> b
     ensures { Takes n marks.old marks.new (blocks_at l.now at) result }
 {
     let mut w = walk_from(l, at);
-    loop {
-        match next_block(l, w) {
-            Step::Done => {
-                return true;
-            }
-            Step::Block(p, rest) => {
-                let p = p as usize;
-                if n <= p {
-                    return false;
-                }
-                if !take_place(marks, p) {
-                    return false;
-                }
-                if !take_range(rest.block as usize, rest.end as usize, n, marks) {
-                    return false;
-                }
-                w = past_range(rest);
-            }
+    while let Some((p, rest)) = next_block(l, w) {
+        if !take_range(p as usize, rest.end as usize, n, marks) {
+            return false;
         }
+        w = past_range(rest);
     }
+    true
 }
 
 // Takes the places of every stash named from a position on.
 fn take_uses(l: &[u8], first: usize, n: usize, marks: &mut [u8; MARK_BYTES]) -> bool
     ensures { Takes n marks.old marks.new (places_of l.now (uses_at l.now first)) result }
 {
-    let mut at = first;
-    loop {
-        let part = read_part(l, at, LEAST_AGAIN);
-        let read = part.read;
-        match read {
-            PartRead::Bad(_) => {
-                return true;
-            }
-            PartRead::Last(places, _) => {
-                return take_places(l, places.at, n, marks);
-            }
-            PartRead::More(places, next) => {
-                if !take_places(l, places.at, n, marks) {
-                    return false;
-                }
-                at = next;
-            }
+    let mut next = Some(first);
+    while let Some(at) = next {
+        let Ok(part) = read_part(l, at, LEAST_AGAIN) else {
+            return true;
+        };
+        if !take_places(l, part.places.at, n, marks) {
+            return false;
         }
+        next = part.next;
     }
+    true
 }
 
 // No place of the source is at n or above, and none is taken twice.
@@ -95,16 +69,9 @@ pub(crate) fn places_fit(l: &[u8], n: usize, source: Source, marks: &mut [u8; MA
             clear_marks(marks, n);
             take_uses(l, first, n, marks)
         }
-        Source::Both {
-            blocks: _,
-            places,
-            first,
-        } => {
+        Source::Both { places, first, .. } => {
             clear_marks(marks, n);
-            if !take_places(l, places.at, n, marks) {
-                return false;
-            }
-            take_uses(l, first, n, marks)
+            take_places(l, places.at, n, marks) && take_uses(l, first, n, marks)
         }
     }
 }

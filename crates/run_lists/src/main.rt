@@ -1,6 +1,8 @@
 // Runs the lists that standard input describes.
 #![tactic(auto)]
 
-fn main(rt: HostRuntime) {
-    list_cases::run_cases(&rt);
+use std::alloc::AllocError;
+
+fn main(rt: HostRuntime) -> Result<(), AllocError> {
+    list_cases::run_cases(rt.alloc(), &rt)
 }

@@ -3,7 +3,7 @@
 use mathlib.Core.Path.{◌≡◌, refl, sym, ap, subst, ◌∙◌}
 use mathlib.Core.Bool.{Bool, true, false}
 use mathlib.Core.List.{List, [], ◌∷◌, ◌++◌, append_assoc, append-nil}
-use mathlib.Core.Logic.{◌⊎◌, inl, inr}
+use Rattle.std.specs.Prelude.{Ok, Err}
 use Prim.Native.Nat.{ℕ, suc, ◌+◌, ◌*◌, ◌≤◌}
 use native.Mathlib.Omega.{arith}
 use borrow.Author.Tests.{eqb-true, eq-eqb}
@@ -14,14 +14,16 @@ use Rattle.text.specs.Below.{AllBelow}
 use Rattle.text.specs.Choice.{pick}
 use Rattle.text.proofs.ChoiceLaws.{both_true, both_is}
 use Rattle.state.specs.Limits.{table_bytes, most_stashes}
-use Rattle.state.specs.Refusals.{none, no_saved_form}
+use Rattle.state.specs.Refusals.{no_saved_form, number_of}
 use Rattle.state.specs.declared.State.{State}
+use Rattle.state.specs.declared.refusals.Reason.{Reason}
+use Rattle.state.specs.declared.refusals.Reason.TheVariants.{NoSavedForm}
 use Rattle.saved.specs.Layout.{mark_bytes, letter_s, letter_h, letter_b, letter_p, letter_r, letter_l, word_bytes, word_bound}
 use Rattle.saved.specs.Layout.{progress_count, refusal_count, length_count}
 use Rattle.saved.specs.Layout.{hashes_at, sizes_at, progress_at, refusal_at, lengths_at, saved_bytes}
 use Rattle.saved.specs.Saved.{words_of, record_of, progress_numbers, refusal_numbers, length_numbers, Typed, FormOf}
 use Rattle.saved.specs.Saved.{hashes_record, sizes_record, progress_record, refusal_record, lengths_record, saved_of}
-use Rattle.saved.specs.Restored.{has_mark, is_saved, numbers_at, state_in, no_state, restored_as, refused, restored_of}
+use Rattle.saved.specs.Restored.{has_mark, is_saved, numbers_at, state_in, restored_of}
 use Rattle.saved.specs.Claim.{SavedClaim}
 use Rattle.saved.proofs.WordLaws.{length-words, numbers-words, words-numbers, below_part}
 use Rattle.saved.proofs.ReadLaws.{saved_length}
@@ -69,13 +71,13 @@ module _ (h b p r l : List ℕ) where
 module _ (s : State) (t : Typed s) where
   -- how long each record is after its mark
   widths :
-      (length s.hashes ≡ table_bytes)
-      × (length (words_of s.sizes) ≡ word_bytes * most_stashes)
+      (length s.table.hashes ≡ table_bytes)
+      × (length (words_of s.table.sizes) ≡ word_bytes * most_stashes)
       × (length (words_of (progress_numbers s)) ≡ word_bytes * progress_count)
       × (length (words_of (refusal_numbers s.refusal)) ≡ word_bytes * refusal_count)
       × (length (words_of (length_numbers s.lengths)) ≡ word_bytes * length_count)
   widths =
-      let w = length-words s.sizes in
+      let w = length-words s.table.sizes in
       let n = t.sizes-length in (
         t.hashes-length,
         omega arith,
@@ -86,19 +88,19 @@ module _ (s : State) (t : Typed s) where
 
   hashes-marked : has_mark (saved_of s) hashes_at letter_h ≡ true
   unfolding saved_of
-  hashes-marked = mark-stands [] hashes_at letter_h s.hashes (sizes_record s ++ (progress_record s ++ (refusal_record s ++ lengths_record s))) refl
+  hashes-marked = mark-stands [] hashes_at letter_h s.table.hashes (sizes_record s ++ (progress_record s ++ (refusal_record s ++ lengths_record s))) refl
 
-  hashes_stand : take table_bytes (drop (hashes_at + mark_bytes) (saved_of s)) ≡ s.hashes
+  hashes_stand : take table_bytes (drop (hashes_at + mark_bytes) (saved_of s)) ≡ s.table.hashes
   unfolding saved_of
   hashes_stand =
-      bytes_stand [] hashes_at letter_h s.hashes (sizes_record s ++ (progress_record s ++ (refusal_record s ++ lengths_record s))) refl
+      bytes_stand [] hashes_at letter_h s.table.hashes (sizes_record s ++ (progress_record s ++ (refusal_record s ++ lengths_record s))) refl
       table_bytes t.hashes-length
 
-  sizes_stand : Stands (saved_of s) sizes_at letter_b most_stashes s.sizes
+  sizes_stand : Stands (saved_of s) sizes_at letter_b most_stashes s.table.sizes
   unfolding saved_of
   sizes_stand =
       let n = widths in
-      stands (hashes_record s) sizes_at letter_b s.sizes (progress_record s ++ (refusal_record s ++ lengths_record s)) most_stashes
+      stands (hashes_record s) sizes_at letter_b s.table.sizes (progress_record s ++ (refusal_record s ++ lengths_record s)) most_stashes
       (omega arith) t.sizes-length t.sizes
 
   progress-stands : Stands (saved_of s) progress_at letter_p progress_count (progress_numbers s)
@@ -174,7 +176,7 @@ module _ (s : State) (t : Typed s) where
         ap (at 5) l,
       )
 
-  read_back : restored_of (saved_of s) ≡ restored_as s
+  read_back : restored_of (saved_of s) ≡ Ok s
   unfolding restored_of
   read_back = rw (saved-is, state-back)
 
@@ -259,34 +261,31 @@ module _ (b : List ℕ) (h : AllBelow 256 b) (is : is_saved b ≡ true) where
 
 -- ---- the claim
 
-own-form : (b : List ℕ) → AllBelow 256 b → (restored_of b).number ≡ none → FormOf b (restored_of b).state
+own-form : (b : List ℕ) → AllBelow 256 b → (s : State) → restored_of b ≡ Ok s → FormOf b s
 unfolding restored_of
-own-form b h e = go (is_saved b) refl e
+own-form b h s e = go (is_saved b) refl e
   where
-    go : (t : Bool) → is_saved b ≡ t → (pick t (restored_as (state_in b)) refused).number ≡ none → FormOf b (pick t (restored_as (state_in b)) refused).state
-    go true is e = record { typed = typed b h is; form = saved-again b h is }
-    go false is e = absurd (omega arith)
+    go : (t : Bool) → is_saved b ≡ t → pick t (Ok (state_in b)) (Err NoSavedForm) ≡ Ok s → FormOf b s
+    go true is e =
+        let i : state_in b ≡ s = cc in
+        let f : FormOf b (state_in b) = record { typed = typed b h is; form = saved-again b h is } in
+        rw i at f
+    go false is e = absurd (cc)
 
-one_number : (b : List ℕ) → ((restored_of b).number ≡ none) ⊎ ((restored_of b).number ≡ no_saved_form)
+one_number : (b : List ℕ) (reason : Reason) → restored_of b ≡ Err reason → number_of reason ≡ no_saved_form
 unfolding restored_of
-one_number b = go (is_saved b)
+one_number b reason e = go (is_saved b) e
   where
-    go : (t : Bool) → ((pick t (restored_as (state_in b)) refused).number ≡ none) ⊎ ((pick t (restored_as (state_in b)) refused).number ≡ no_saved_form)
-    go true = inl refl
-    go false = inr refl
+    go : (t : Bool) → pick t (Ok (state_in b)) (Err NoSavedForm) ≡ Err reason → number_of reason ≡ no_saved_form
+    go true e = absurd (cc)
+    go false e =
+        let i : NoSavedForm ≡ reason = cc in
+        sym (ap number_of i)
 
-no-state : (b : List ℕ) → (restored_of b).number ≡ no_saved_form → (restored_of b).state ≡ no_state
-unfolding restored_of
-no-state b e = go (is_saved b) e
-  where
-    go : (t : Bool) → (pick t (restored_as (state_in b)) refused).number ≡ no_saved_form → (pick t (restored_as (state_in b)) refused).state ≡ no_state
-    go true e = absurd (omega arith)
-    go false e = refl
-
-no-form : (b : List ℕ) → (restored_of b).number ≡ no_saved_form → (s : State) → FormOf b s → ⊥
-no-form b e s f =
-    let n : (restored_of b).number ≡ none = rw (← f.form, read_back s f.typed) in
-    omega arith
+no-form : (b : List ℕ) (reason : Reason) → restored_of b ≡ Err reason → (s : State) → FormOf b s → ⊥
+no-form b reason e s f =
+    let r : restored_of b ≡ Ok s = rw f.form at (read_back s f.typed) in
+    cc
 
 pub claim : SavedClaim
 claim =
@@ -297,6 +296,5 @@ claim =
       read_back = read_back;
       own-form = own-form;
       one_number = one_number;
-      no-state = no-state;
       no-form = no-form;
     }

@@ -1,19 +1,20 @@
 -- Document 02, R-9: a state read back from bytes, or 20 with no state. Only the length and the marks are tested: all other bytes may be any.
 -- Assumes nothing: these are definitions.
-use Rattle.std.specs.Prelude.{ℕ, zero, suc, ◌+◌, ◌*◌, Bool, List, [], ◌∷◌, length, get_or, take, drop, eqb}
+use Rattle.std.specs.Prelude.{ℕ, zero, suc, ◌+◌, ◌*◌, Bool, List, [], ◌∷◌, length, get_or, take, drop, eqb, Result, Ok, Err, ⊤}
 use Rattle.text.specs.Choice.{pick, both}
+use Rattle.text.specs.Read.{on_result}
 use Rattle.little_endian.specs.LittleEndian.{eight_at}
 use Rattle.state.specs.Limits.{table_bytes, most_stashes}
-use Rattle.state.specs.Refusals.{none, no_saved_form}
-use Rattle.state.specs.States.{no_refusal, state_at, state_with}
+use Rattle.state.specs.Stashes.{table_at}
+use Rattle.state.specs.States.{no_refusal, state_at}
 use Rattle.state.specs.declared.Lengths.{Lengths}
-use Rattle.state.specs.declared.Progress.{Progress}
 use Rattle.state.specs.declared.Refusal.{Refusal}
 use Rattle.state.specs.declared.State.{State}
+use Rattle.state.specs.declared.stashes.Table.{Table}
+use Rattle.state.specs.declared.refusals.Reason.{Reason}
+use Rattle.state.specs.declared.refusals.Reason.TheVariants.{NoSavedForm}
 use Rattle.saved.specs.Layout.{mark_bytes, letter_s, letter_h, letter_b, letter_p, letter_r, letter_l, word_bytes}
 use Rattle.saved.specs.Layout.{hashes_at, sizes_at, progress_at, refusal_at, lengths_at, saved_bytes}
-use Rattle.saved.specs.declared.Restored.{Restored}
-use Rattle.saved.specs.declared.RestoredProgress.{RestoredProgress}
 
 -- the record at a position has the mark of this letter
 unfoldable pub has_mark : List ℕ → ℕ → ℕ → Bool
@@ -60,11 +61,15 @@ hashes_in b = take table_bytes (drop (hashes_at + mark_bytes) b)
 abbrev pub sizes_in : List ℕ → List ℕ
 sizes_in b = numbers_at b (sizes_at + mark_bytes) most_stashes
 
--- what a state has besides these tables
-abbrev pub progress_in : List ℕ → Progress
-progress_in b =
+-- the table of stashes
+abbrev pub table_in : List ℕ → Table
+table_in b = table_at (hashes_in b) (sizes_in b) (number_in b progress_at 0)
+
+-- the state of a saved form
+unfoldable pub state_in : List ℕ → State
+state_in b =
     record {
-      count = number_in b progress_at 0;
+      table = table_in b;
       line = number_in b progress_at 1;
       at = number_in b progress_at 2;
       into = number_in b progress_at 3;
@@ -75,46 +80,20 @@ progress_in b =
       lengths = lengths_in b;
     }
 
--- the state of a saved form
-unfoldable pub state_in : List ℕ → State
-state_in b = state_with (hashes_in b) (sizes_in b) (progress_in b)
+-- what bytes are read back as
+unfoldable pub restored_of : List ℕ → Result State Reason
+restored_of b = pick (is_saved b) (Ok (state_in b)) (Err NoSavedForm)
+
+-- ---- the same over a state that is lent
 
 -- no state: all of it zero
 abbrev pub no_state : State
 no_state = state_at 0 0 no_refusal (record { list = 0; image = 0; stash = 0; work = 0; result = 0; patch = 0 })
 
--- a state, with number 0
-abbrev pub restored_as : State → Restored
-restored_as s = record { number = none; state = s }
+-- whether they are read back
+abbrev pub restores : List ℕ → Result ⊤ Reason
+restores b = on_result (restored_of b) (λ s. Ok tt) Err
 
-abbrev pub refused : Restored
-refused = record { number = no_saved_form; state = no_state }
-
--- what bytes are read back as
-unfoldable pub restored_of : List ℕ → Restored
-restored_of b = pick (is_saved b) (restored_as (state_in b)) refused
-
--- ---- the same over tables that are lent
-
-abbrev pub no_progress : Progress
-no_progress =
-    record {
-      count = 0;
-      line = 0;
-      at = 0;
-      into = 0;
-      total = 0;
-      ready = 0;
-      stretches = 0;
-      refusal = no_refusal;
-      lengths = record { list = 0; image = 0; stash = 0; work = 0; result = 0; patch = 0 };
-    }
-
--- what is given back, with the tables as they were left
-abbrev pub restored_with : List ℕ → List ℕ → RestoredProgress → Restored
-restored_with hashes sizes r = record { number = r.number; state = state_with hashes sizes r.progress }
-
--- with 20 there is no state: the number says so, and the tables are those that were lent
-unfoldable pub restored_over : List ℕ → List ℕ → List ℕ → Restored
-restored_over hashes sizes b =
-    pick (is_saved b) (restored_as (state_in b)) (record { number = no_saved_form; state = state_with hashes sizes no_progress })
+-- the state after it: the one that is read back; with 20 it stays
+abbrev pub state_after : State → List ℕ → State
+state_after before b = on_result (restored_of b) (λ s. s) (λ reason. before)

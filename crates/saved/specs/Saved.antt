@@ -24,7 +24,7 @@ record_of letter bytes = letter_s ∷ letter ∷ bytes
 
 -- the numbers of a state besides its tables, its refusal and its lengths
 abbrev pub progress_numbers : State → List ℕ
-progress_numbers s = s.count ∷ s.line ∷ s.at ∷ s.into ∷ s.total ∷ s.ready ∷ s.stretches ∷ []
+progress_numbers s = s.table.count ∷ s.line ∷ s.at ∷ s.into ∷ s.total ∷ s.ready ∷ s.stretches ∷ []
 
 abbrev pub refusal_numbers : Refusal → List ℕ
 refusal_numbers r = r.number ∷ r.line ∷ r.byte ∷ []
@@ -35,10 +35,10 @@ length_numbers l = l.list ∷ l.image ∷ l.stash ∷ l.work ∷ l.result ∷ l.
 -- ---- the five records; the tables are in them whole, entries past the count too
 
 abbrev pub hashes_record : State → List ℕ
-hashes_record s = record_of letter_h s.hashes
+hashes_record s = record_of letter_h s.table.hashes
 
 abbrev pub sizes_record : State → List ℕ
-sizes_record s = record_of letter_b (words_of s.sizes)
+sizes_record s = record_of letter_b (words_of s.table.sizes)
 
 abbrev pub progress_record : State → List ℕ
 progress_record s = record_of letter_p (words_of (progress_numbers s))
@@ -54,10 +54,10 @@ saved_of s = hashes_record s ++ (sizes_record s ++ (progress_record s ++ (refusa
 
 -- what every value of the state's type has: tables of their lengths, bytes that are bytes, numbers of 64 bits
 pub record Typed (s : State) : Type 0 where
-  pub hashes-length : length s.hashes ≡ table_bytes
-  pub sizes-length : length s.sizes ≡ most_stashes
-  pub hashes : AllBelow 256 s.hashes
-  pub sizes : AllBelow word_bound s.sizes
+  pub hashes-length : length s.table.hashes ≡ table_bytes
+  pub sizes-length : length s.table.sizes ≡ most_stashes
+  pub hashes : AllBelow 256 s.table.hashes
+  pub sizes : AllBelow word_bound s.table.sizes
   pub progress : AllBelow word_bound (progress_numbers s)
   pub refusal : AllBelow word_bound (refusal_numbers s.refusal)
   pub lengths : AllBelow word_bound (length_numbers s.lengths)

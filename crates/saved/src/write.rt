@@ -5,7 +5,6 @@ ghost use Rattle.saved.specs.Layout.{mark_bytes, letter_h, word_bytes, word_boun
 ghost use Rattle.saved.specs.Saved.{bytes_of, words_of, record_of};
 
 use crate::layout::{LETTER_H, LETTER_S, MARK_BYTES, WORD_BYTES};
-use copy::copy_in;
 
 fn put_mark(to: &mut [u8], at: usize, letter: u8)
     requires { at + mark_bytes ≤ length to.old }
@@ -15,20 +14,16 @@ fn put_mark(to: &mut [u8], at: usize, letter: u8)
     to[at + 1] = letter;
 }
 
+#[tactic(auto, using(crate::proofs::PutLaws::word_put))]
 fn put_word(to: &mut [u8], at: usize, x: usize)
     requires { at + word_bytes ≤ length to.old }
     ensures { take (at + word_bytes) to.new ≡ take at to.old ++ bytes_of word_bytes x }
 {
-    let mut left = x;
-    let mut i = 0;
-    while i < WORD_BYTES {
-        to[at + i] = (left % 256) as u8;
-        left = left / 256;
-        i += 1;
-    }
+    to[at..at + WORD_BYTES].copy_from_slice(&x.to_le_bytes());
 }
 
 // The table of hashes after its mark. That its bytes are bytes is known here, where they are read, and wanted of a saved form.
+#[tactic(auto, using(crate::proofs::PutLaws::table_put, crate::proofs::WordLaws::below_each))]
 pub(crate) fn put_hashes(to: &mut [u8], at: usize, hashes: &[u8])
     requires { at + (mark_bytes + length hashes.now) ≤ length to.old }
     ensures to_after { take (at + (mark_bytes + length hashes.now)) to.new
@@ -37,10 +32,11 @@ pub(crate) fn put_hashes(to: &mut [u8], at: usize, hashes: &[u8])
 {
     put_mark(to, at, LETTER_H);
     let body = at + MARK_BYTES;
-    copy_in(&mut to[body..], hashes);
+    to[body..body + hashes.len()].copy_from_slice(hashes);
 }
 
 // Numbers after a mark. That they have 64 bits is known here, where they are read, and wanted of a saved form.
+#[tactic(auto, using(crate::proofs::PutLaws::row_put, crate::proofs::WordLaws::below_each), unfolding(crate::specs::Saved::words_of))]
 pub(crate) fn put_numbers(to: &mut [u8], at: usize, letter: u8, from: &[usize])
     requires { at + (mark_bytes + word_bytes * length from.now) ≤ length to.old }
     ensures to_after { take (at + (mark_bytes + word_bytes * length from.now)) to.new
@@ -48,11 +44,8 @@ pub(crate) fn put_numbers(to: &mut [u8], at: usize, letter: u8, from: &[usize])
     ensures all_below { AllBelow word_bound from.now }
 {
     put_mark(to, at, letter);
-    let mut k = at + MARK_BYTES;
-    let mut i = 0;
-    while i < from.len() {
-        put_word(to, k, from[i]);
-        k += WORD_BYTES;
-        i += 1;
+    let body = at + MARK_BYTES;
+    for (i, x) in from.iter().enumerate() {
+        put_word(to, body + WORD_BYTES * i, *x);
     }
 }

@@ -4,7 +4,7 @@
 use mathlib.Core.Path.{◌≡◌, refl, sym, ap, subst, ◌∙◌}
 use mathlib.Core.Bool.{Bool, true, false}
 use mathlib.Core.List.{List, [], ◌∷◌, ◌++◌, append-nil}
-use Prim.Native.Nat.{ℕ, zero, suc, ◌+◌, ◌-◌, ◌^◌, ◌≤◌, ◌<◌}
+use Prim.Native.Nat.{ℕ, zero, suc, ◌+◌, ◌-◌, ◌≤◌, ◌<◌}
 use native.Mathlib.Nat.{zero-add}
 use native.Mathlib.Omega.{arith}
 use borrow.Author.Tests.{ne_eqb}
@@ -14,7 +14,6 @@ use lib.Seq.{take_all, drop-drop}
 use Rattle.text.specs.Choice.{pick, both}
 use Rattle.text.proofs.ChoiceLaws.{both_true}
 use Rattle.ranges.specs.Ranges.{least_blocks}
-use Rattle.state.specs.Limits.{most_stashes, table_bytes}
 use Rattle.state.specs.Refusals.{none, state_impossible}
 use Rattle.state.specs.States.{refusing}
 use Rattle.state.specs.declared.Lengths.{Lengths}
@@ -29,11 +28,10 @@ use Rattle.machine.specs.Stops.{start}
 use Rattle.machine.proofs.MachineLaws.{feeds-append, counts-append, counts-most}
 use Rattle.machine.proofs.StopLaws.{call-keeps, call_burns}
 use Rattle.updater.specs.Areas.{Areas}
-use Rattle.updater.specs.Fits.{Fits}
+use Rattle.updater.specs.Fits.{Typed, Fits}
 use Rattle.updater.specs.Steps.{Config, config_of}
 use Rattle.updater.specs.Run.{steps_left, halts_at, machine, run_of}
-use Rattle.updater.specs.Calls.{outcome_of, lengths_at, is_run, leaves, takes, stops, says, Result, result_of, call_of}
-use Rattle.updater.specs.declared.Called.{Called}
+use Rattle.updater.specs.Calls.{outcome_of, lengths_at, is_run, leaves, takes, stops, says, Left, CallResult, result_of, call_of}
 use Rattle.updater.specs.declared.Outcome.{Outcome}
 use Rattle.updater.specs.declared.Outcome.TheVariants as outcome
 use Rattle.updater.proofs.FitLaws.{fits-sound, put_burns_none}
@@ -49,12 +47,6 @@ use Rattle.sequence.proofs.SequenceLaws.{outcome-no-stop, Callable, all-sent, al
 use Rattle.sequence.proofs.ClaimLaws.{claim, header, starts-callable, model-feeds, feeds-holds}
 
 -- ---- a call that stops
-
--- the tables have their lengths and the total is a word, as in every state that the code can hold
-pub record Sized (state : State) : Type 0 where
-  pub hashes : length state.hashes ≡ table_bytes
-  pub sizes : length state.sizes ≡ most_stashes
-  pub total : state.total < 2 ^ 64
 
 -- the steps that are left at the most: no more calls can stop
 abbrev pub stops_left : List ℕ → Config → ℕ
@@ -79,7 +71,7 @@ module _ (s q : List ℕ) (p : Config) where
       go false b c e = absurd (outcome-no-stop s p.state e)
 
   -- from such a state
-  module _ (sized : Sized p.state) (e : says least_blocks s q p ≡ outcome.Stop) where
+  module _ (typed : Typed p.state) (e : says least_blocks s q p ≡ outcome.Stop) where
     abbrev terms : Terms
     terms = terms_for s (lengths_at s p.areas)
 
@@ -88,7 +80,7 @@ module _ (s q : List ℕ) (p : Config) where
     stop-fits =
         possible-fits s p
         (both_true (eqb p.state.refusal.number none) (is_possible least_blocks s (lengths_at s p.areas) p.state) (says-stop e).0).1
-        sized.hashes sized.sizes sized.total
+        typed
 
     -- .. it has cost a step
     stop_burns : stops_left s (leaves least_blocks s q p) < stops_left s p
@@ -100,7 +92,7 @@ module _ (s q : List ℕ) (p : Config) where
         (λ m y v w t. put_burns_none s terms m y) q p stop-fits).less (rw x.0 at x.1))
 
     -- .. and it leaves such a state
-    stop-keeps : Sized (leaves least_blocks s q p).state
+    stop-keeps : Typed (leaves least_blocks s q p).state
     unfolding leaves run_of
     stop-keeps =
         let f = call-keeps (machine least_blocks s terms) (halts_at least_blocks s terms) (Fits s terms) (fits-sound s terms) q p stop-fits in
@@ -143,14 +135,14 @@ pub record CallingOn (s piece : List ℕ) (p₀ p : Config) (at : ℕ) : Type 0 
   pub stopped : ℕ
   pub made : all_calls least_blocks s (replicate stopped []) (handed_on p₀ piece 0) ≡ handed_on p (drop at piece) at
   pub within : at ≤ length piece
-  pub sized : Sized p.state
+  pub typed : Typed p.state
 
 module _ (s piece : List ℕ) where
-  pub calling_start : (p : Config) → Sized p.state → CallingOn s piece p p 0
+  pub calling_start : (p : Config) → Typed p.state → CallingOn s piece p p 0
   unfolding all_calls
-  calling_start p t = record { stopped = 0; made = refl; within = omega arith; sized = t }
+  calling_start p t = record { stopped = 0; made = refl; within = omega arith; typed = t }
 
-  module _ {p₀ p : Config} {at : ℕ} (v : CallingOn s piece p₀ p at) {areas : Areas} {called : Called}
+  module _ {p₀ p : Config} {at : ℕ} (v : CallingOn s piece p₀ p at) {areas : Areas} {called : Left}
       (r : result_of areas called ≡ call_of least_blocks s (take (length piece - at) (drop at piece)) p) where
     all_left : take (length piece - at) (drop at piece) ≡ drop at piece
     all_left = let l = length-drop at piece in take_all (length piece - at) (drop at piece) (omega arith)
@@ -188,7 +180,7 @@ module _ (s piece : List ℕ) where
       pub calling_burns : stops_left s (config_of areas called.state) < stops_left s p
       calling_burns =
           subst (λ (m : Config). stops_left s m < stops_left s p) (sym next-config)
-          (stop_burns s (drop at piece ++ []) p v.sized (sym next-says ∙ e))
+          (stop_burns s (drop at piece ++ []) p v.typed (sym next-says ∙ e))
 
       next-rest : next.rest ≡ drop (at + called.taken) piece
       next-rest =
@@ -204,9 +196,9 @@ module _ (s piece : List ℕ) where
             stopped = suc v.stopped;
             made = next-made ∙ made_eq (sym next-config) next-rest (sym next-taken);
             within = calling_within;
-            sized =
-                subst (λ (m : Config). Sized m.state) (sym next-config)
-                (stop-keeps s (drop at piece ++ []) p v.sized (sym next-says ∙ e));
+            typed =
+                subst (λ (m : Config). Typed m.state) (sym next-config)
+                (stop-keeps s (drop at piece ++ []) p v.typed (sym next-says ∙ e));
           }
         where
           made_eq : {m n : Config} {x y : List ℕ} {i j : ℕ} → m ≡ n → x ≡ y → i ≡ j → handed_on m x i ≡ handed_on n y j
@@ -244,7 +236,7 @@ unfolding joined
 joined-first piece n = ap (λ (l : List ℕ). piece ++ l) (joined-none n) ∙ append-nil piece
 
 -- calling on from a config of a run comes to the run past every stop over the piece
-module _ (s : List ℕ) (lengths : Lengths) (h : Header) (piece : List ℕ) (p : Config) (v : Callable s lengths h p) {r : Result} (k : CallsOn s piece p r) where
+module _ (s : List ℕ) (lengths : Lengths) (h : Header) (piece : List ℕ) (p : Config) (v : Callable s lengths h p) {r : CallResult} (k : CallsOn s piece p r) where
   abbrev machine_on : Machine
   machine_on = machine least_blocks s (terms_of lengths h)
 
@@ -318,7 +310,7 @@ module _ (s bytes : List ℕ) {p₀ p : Config} {from total : ℕ} (v : Cutting 
   machine_cut = machine least_blocks s (terms_of lengths_cut v.header)
 
   -- a piece of the bytes that are left
-  module _ {end : ℕ} (l : from ≤ end) (m : end ≤ length bytes) {r : Result} (k : CallsOn s (take (end - from) (drop from bytes)) p r) where
+  module _ {end : ℕ} (l : from ≤ end) (m : end ≤ length bytes) {r : CallResult} (k : CallsOn s (take (end - from) (drop from bytes)) p r) where
     abbrev piece : List ℕ
     piece = take (end - from) (drop from bytes)
 
@@ -362,7 +354,7 @@ module _ (s bytes : List ℕ) {p₀ p : Config} {from total : ℕ} (v : Cutting 
         }
 
   -- all that is left
-  pub cutting_ends : {r : Result} → CallsOn s (take (length bytes - from) (drop from bytes)) p r →
+  pub cutting_ends : {r : CallResult} → CallsOn s (take (length bytes - from) (drop from bytes)) p r →
       result_of r.areas (record { state = r.called.state; outcome = r.called.outcome; taken = total + r.called.taken })
       ≡ past_stops s (terms_for s (lengths_at s p₀.areas)) bytes p₀
   cutting_ends {r} k =
@@ -405,7 +397,7 @@ module _ (s : List ℕ) (a : Areas) (bytes : List ℕ) {opened : State} (o : ope
       let n : (open_refusal least_blocks s (lengths_at s a)).number ≡ none → ⊥ = λ z. h (rw o (open_free s (lengths_at s a) z)) in
       rw (ne_eqb (open_refusal least_blocks s (lengths_at s a)).number none n, o, open_refusal_lem s (lengths_at s a) n)
 
-  pub run-accepted : opened.refusal.number ≡ none → {r : Result} → r ≡ past_stops s (terms_for s (lengths_at s a)) bytes (config_of a opened) →
+  pub run-accepted : opened.refusal.number ≡ none → {r : CallResult} → r ≡ past_stops s (terms_for s (lengths_at s a)) bytes (config_of a opened) →
       r ≡ run_all s a bytes
   unfolding run_all
   run-accepted z e =
@@ -422,7 +414,7 @@ run-claim s a bytes e =
     let first = opened_config s a in
     let terms = running-terms s (lengths_at s a) (header s a e) first (starts-callable s a e).running in
     let m = sym (model-feeds s a e bytes) in
-    subst (λ (r : Result). RunAgrees s a r (model least_blocks s a bytes))
+    subst (λ (r : CallResult). RunAgrees s a r (model least_blocks s a bytes))
     (sym (accepted-runs s a e bytes ∙ ap (λ (t : Terms). past_stops s t bytes first) terms))
     (record {
       areas = ap (λ (x : Model). x.areas) m;
@@ -432,5 +424,5 @@ run-claim s a bytes e =
     })
 
 -- a result that is `run_all` meets the claim
-pub with_claim : (s : List ℕ) (a : Areas) (bytes : List ℕ) {r : Result} → r ≡ run_all s a bytes → (r ≡ run_all s a bytes) × RunMeets s a bytes r
+pub with_claim : (s : List ℕ) (a : Areas) (bytes : List ℕ) {r : CallResult} → r ≡ run_all s a bytes → (r ≡ run_all s a bytes) × RunMeets s a bytes r
 with_claim s a bytes e = (e, λ k. rw e (run-claim s a bytes k))

@@ -27,8 +27,6 @@ use Rattle.rules.specs.declared.Terms.{Terms}
 use Rattle.rules.proofs.HeldLaws.{good-command}
 use Rattle.rules.proofs.FormLaws.{form-is, form_or_none}
 use Rattle.transfer_list.specs.Header.{header_of, start_refusal}
-use Rattle.transfer_list.specs.declared.header.HeaderRead.{HeaderRead}
-use Rattle.transfer_list.specs.declared.header.HeaderRead.TheVariants as header
 use Rattle.transfer_list.proofs.FaultLaws.{line-fault, command-line-good}
 use Rattle.possible.specs.Possible.{same_lengths, at_line, possible_under, is_possible, terms_for}
 use Rattle.machine.proofs.MachineLaws.{Sound}
@@ -44,6 +42,9 @@ use Rattle.updater.proofs.StepLaws.{step-refuses}
 use Rattle.updater.proofs.FitLaws.{NotStopped, not_stopped, fits-sound}
 use Rattle.updater.proofs.CallLaws.{possible-fits}
 use Rattle.sequence.specs.Faults.{GoodLines, nothing_yet, one_more, CallReports}
+use Rattle.std.specs.Prelude.{Result, Ok, Err}
+use Rattle.transfer_list.specs.declared.header.Header.{Header}
+use Rattle.transfer_list.specs.declared.header.BadHeader.{BadHeader}
 
 -- where a run stands: the line's number is its position's, and good lines led there from where the call began
 record Follows (s : List ℕ) (from : ℕ) (t : State) : Type 0 where
@@ -58,9 +59,9 @@ possible-line s lengths t e =
     let b = both_true (eqb (start_refusal s lengths).number none) _ a.1 in
     go (header_of s) b.1
   where
-    go : (read : HeaderRead) → possible_under least_blocks s lengths read t ≡ true → t.line ≡ line_number s t.at
-    go (header.Bad line byte) f = absurd (let z : ◌≡◌ {A = ℕ} 0 1 = cc in omega arith)
-    go (header.Good h) f =
+    go : (read : Result Header BadHeader) → possible_under least_blocks s lengths read t ≡ true → t.line ≡ line_number s t.at
+    go (Err bad) f = absurd (let z : ◌≡◌ {A = ℕ} 0 1 = cc in omega arith)
+    go (Ok h) f =
         let at_line_lem = (both_true (at_line s h t.line t.at) _ f).0 in
         let first = both_true (leb h.first t.at) _ at_line_lem in
         let within = both_true (leb t.at (length s)) _ first.1 in
@@ -197,8 +198,8 @@ module _ (s : List ℕ) (from : ℕ) where
       }
 
 -- a call that is a run, over a state whose two tables have their lengths and whose total is a word, whatever the list is by then
-pub call-reports : (s piece : List ℕ) (p : Config) → is_run least_blocks s p ≡ true → length p.state.hashes ≡ table_bytes →
-    length p.state.sizes ≡ most_stashes → p.state.total < 2 ^ 64 → CallReports s p.state.at (leaves least_blocks s piece p).state
+pub call-reports : (s piece : List ℕ) (p : Config) → is_run least_blocks s p ≡ true → length p.state.table.hashes ≡ table_bytes →
+    length p.state.table.sizes ≡ most_stashes → p.state.total < 2 ^ 64 → CallReports s p.state.at (leaves least_blocks s piece p).state
 unfolding is_run leaves run_of
 call-reports s piece p r a b c =
     let k = both_true (eqb p.state.refusal.number none) (is_possible least_blocks s (lengths_at s p.areas) p.state) r in
@@ -206,7 +207,7 @@ call-reports s piece p r a b c =
     let terms = terms_for s (lengths_at s p.areas) in
     rw r
     (call-keeps (machine least_blocks s terms) (halts_at least_blocks s terms) (Reporting s from terms) (reports-sound s from terms) piece p (
-      possible-fits s p k.1 a b c,
+      possible-fits s p k.1 (record { hashes = a; sizes = b; total = c }),
       record { line = possible-line s (lengths_at s p.areas) p.state k.1; before = nothing_yet },
       none-reports s from p.state (eqb-true p.state.refusal.number none k.0),
     )).2

@@ -13,6 +13,7 @@ use lib.Dec.{ltb, eqb}
 use lib.ListN.{length, take, set, length-take}
 use Rattle.text.specs.Line.{line_at}
 use Rattle.text.proofs.ChoiceLaws.{bool, picks, both_true, either_false}
+use Rattle.text.specs.Read.{on_option}
 use Rattle.ranges.specs.Ranges.{least_blocks}
 use Rattle.command.specs.Patching.{patching_of}
 use Rattle.ranges.specs.Walk.{blocks_at}
@@ -24,13 +25,9 @@ use Rattle.state.specs.Stashes.{Stash, held, find_in, size_at, blocks_held, youn
 use Rattle.state.specs.Stretches.{stretch_blocks}
 use Rattle.state.specs.declared.Lengths.{Lengths}
 use Rattle.state.specs.declared.State.{State}
-use Rattle.state.specs.declared.stashes.Found.{Found}
-use Rattle.state.specs.declared.stashes.Found.TheVariants.{At, Nothing}
 use Rattle.state.proofs.StashLaws.{blocks_held-before}
 use Rattle.command.specs.Commands.{command_of}
-use Rattle.command.specs.Targets.{new_target, on_new_target, target_blocks}
-use Rattle.command.specs.declared.targets.NewTarget.{NewTarget}
-use Rattle.command.specs.declared.targets.NewTarget.TheVariants as new
+use Rattle.command.specs.Targets.{new_target, target_blocks}
 use Rattle.command.specs.declared.source.Source.{Source}
 use Rattle.command.specs.declared.patching.Patching.{Patching}
 use Rattle.command.specs.declared.Command.{Command}
@@ -67,6 +64,7 @@ use Rattle.sequence.proofs.RunningLaws.{running-line, running-sound}
 use Rattle.sequence.proofs.SameLaws.{same, same_then, same-fewer, OutOf, Past, over-same, moved_same, zeroed-same, written_same}
 use Rattle.sequence.proofs.SameLaws.{put_same, supplied-same, together-same}
 use Rattle.sequence.proofs.WholeLineLaws.{moved_down-none}
+use Rattle.std.specs.Prelude.{Option, Some, None}
 
 -- ---- a command
 
@@ -200,10 +198,10 @@ module _ (l : List ℕ) (terms : Terms) (held : List Stash) (hash : List ℕ) (a
       moved_same a.stash _ _ _ terms.blocks (omega arith) (omega (arith, some)) (omega (arith, some)))
       (bool (eqb n 0))
 
-  free_writes : (k : ℕ) (f : Found) → Writes l command.Free terms.blocks a (free_step held k a f).areas
+  free_writes : (k : ℕ) (f : Option ℕ) → Writes l command.Free terms.blocks a (free_step held k a f).areas
   unfolding free_step
-  free_writes k (At j) = writes-stash (stretched-same j k)
-  free_writes k Nothing = writes_nothing l command.Free terms.blocks a
+  free_writes k (Some j) = writes-stash (stretched-same j k)
+  free_writes k None = writes_nothing l command.Free terms.blocks a
 
   -- a step of a command
   step_writes_lem : (c : Command) (ready k : ℕ) → refusal_for l terms held hash c ≡ none → Runnable l held a c →
@@ -226,13 +224,13 @@ unfolding new_bytes new_blocks target_blocks Runnable
 byte-writes l held a n c k x r h =
     writes-image (go (new_target c) refl h)
   where
-    go : (t : NewTarget) → new_target c ≡ t → k < on_new_target t (λ set. block_bytes * set.blocks) 0 →
-        SameIn (OutOf (target_blocks l c)) a.image (set a.image (address_of (on_new_target t (λ set. blocks_at l set.at) []) k) x)
-    go (new.Set set) e h =
+    go : (t : Option RangeSet) → new_target c ≡ t → k < on_option t (λ set. block_bytes * set.blocks) 0 →
+        SameIn (OutOf (target_blocks l c)) a.image (set a.image (address_of (on_option t (λ set. blocks_at l set.at) []) k) x)
+    go (Some set) e h =
         let q = is_new c e in
         let r : Runnable l held a (command.New set) = subst (Runnable l held a) q r in
         rw q (put_same (blocks_at l set.at) k x a.image (omega (arith, r.size)))
-    go new.None e h = absurd (omega arith)
+    go None e h = absurd (omega arith)
 
 -- ---- the lines up to the current one
 

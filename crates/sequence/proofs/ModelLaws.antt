@@ -14,6 +14,7 @@ use borrow.Author.Tests.{leb-true, leb-false}
 use Rattle.text.specs.Choice.{no}
 use Rattle.text.proofs.ChoiceLaws.{bool, either_or_true}
 use Rattle.text.proofs.LineLaws.{line_some}
+use Rattle.text.specs.Read.{on_option}
 use Rattle.ranges.specs.Ranges.{least_blocks}
 use Rattle.ranges.specs.Walk.{blocks_at}
 use Rattle.ranges.specs.declared.RangeSet.{RangeSet}
@@ -21,9 +22,7 @@ use Rattle.state.specs.Limits.{block_bytes}
 use Rattle.state.specs.Refusals.{none}
 use Rattle.state.specs.Stashes.{table_of, held}
 use Rattle.command.specs.Commands.{command_of}
-use Rattle.command.specs.Targets.{new_target, on_new_target}
-use Rattle.command.specs.declared.targets.NewTarget.{NewTarget}
-use Rattle.command.specs.declared.targets.NewTarget.TheVariants as new
+use Rattle.command.specs.Targets.{new_target}
 use Rattle.command.proofs.CommandLaws.{command-hash}
 use Rattle.rules.specs.Held.{table_after}
 use Rattle.rules.specs.Rules.{refusal_of}
@@ -41,6 +40,7 @@ use Rattle.updater.proofs.AtLineLaws.{waits, fed, fed-goes, fed-refusal, eats_ne
 use Rattle.updater.proofs.RunLaws.{is_new}
 use Rattle.sequence.proofs.WholeLineLaws.{whole_line, line-whole}
 use Rattle.sequence.specs.Model.{Model, line_ends, with_bytes, do_new, do_effect, do_line, run_lines}
+use Rattle.std.specs.Prelude.{Option, Some, None}
 
 -- a configuration, and the bytes taken so far, as the model has them
 abbrev pub model_of : Config → ℕ → Model
@@ -184,7 +184,7 @@ module _ (s : List ℕ) (terms : Terms) (Inv : Config → Type 0) (g : Runs s te
           subst Inv q (puts-keeps (machine least_blocks s terms) Inv g.sound ys p v a),
         )
 
-    module _ (set : RangeSet) (i : p.state.into ≡ 0) (e : new_target (current_command least_blocks s p) ≡ new.Set set) where
+    module _ (set : RangeSet) (i : p.state.into ≡ 0) (e : new_target (current_command least_blocks s p) ≡ Some set) where
       abbrev target : List ℕ
       target = blocks_at line set.at
 
@@ -281,12 +281,12 @@ module _ (s : List ℕ) (terms : Terms) (Inv : Config → Type 0) (g : Runs s te
     unfolding new_bytes
     one_line i = go (new_target (current_command least_blocks s p)) refl
       where
-        go : (t : NewTarget) → new_target (current_command least_blocks s p) ≡ t →
+        go : (t : Option RangeSet) → new_target (current_command least_blocks s p) ≡ t →
             Is s terms p xs k
-            (on_new_target t (λ set. do_new (run_lines least_blocks n s) line set (model_of p k) xs)
+            (on_option t (λ set. do_new (run_lines least_blocks n s) line set (model_of p k) xs)
             (do_effect (run_lines least_blocks n s) line (command_of least_blocks line) (model_of p k) xs done))
-        go (new.Set set) e = new_line set i e
-        go new.None e = effect-line (rw e)
+        go (Some set) e = new_line set i e
+        go None e = effect-line (rw e)
 
   ended-stops : (p : Config) → leb (length s) p.state.at ≡ true → is_stopped s p ≡ true
   unfolding is_stopped

@@ -24,8 +24,6 @@ use Rattle.state.specs.States.{refusing, no_refusal, state_at}
 use Rattle.transfer_list.specs.Header.{first_line, header_of, start_refusal}
 use Rattle.transfer_list.specs.Opening.{terms_of, total_refusal, lines_refusal, commands_refusal, open_refusal, first_at, accepted_state, refused_state, open_state}
 use Rattle.transfer_list.specs.declared.header.Header.{Header}
-use Rattle.transfer_list.specs.declared.header.HeaderRead.{HeaderRead}
-use Rattle.transfer_list.specs.declared.header.HeaderRead.TheVariants.{Good, Bad}
 use Rattle.transfer_list.proofs.HeaderLaws.{Opening, header-first, header-last, header-lines, start_none}
 use Rattle.possible.specs.Possible.{can_be_stretched}
 use Rattle.updater.specs.Fits.{Fits}
@@ -36,6 +34,8 @@ use Rattle.sequence.specs.Claim.{opened_config, Accepted}
 use Rattle.text.proofs.ChoiceLaws.{bool, picks}
 use Rattle.sequence.proofs.Running.{WalkLeft, going, Running}
 use Rattle.sequence.proofs.ModelLaws.{Fresh}
+use Rattle.std.specs.Prelude.{Result, Ok, Err}
+use Rattle.transfer_list.specs.declared.header.BadHeader.{BadHeader}
 
 module _ (s : List ℕ) (lengths : Lengths) (e : open_refusal least_blocks s lengths ≡ no_refusal) where
   -- neither the start nor a command line is refused
@@ -48,7 +48,7 @@ module _ (s : List ℕ) (lengths : Lengths) (e : open_refusal least_blocks s len
       go (inl t) = (eqb-true (start_refusal s lengths).number none t, rw t at e)
       go (inr t) = absurd (eqb-false (start_refusal s lengths).number none t (ap (λ (r : Refusal). r.number) (rw t at e)))
 
-  opened-state : {h : Header} → header_of s ≡ Good h → open_state least_blocks s lengths ≡ state_at first_line h.first no_refusal lengths
+  opened-state : {h : Header} → header_of s ≡ Ok h → open_state least_blocks s lengths ≡ state_at first_line h.first no_refusal lengths
   unfolding open_state accepted_state first_at
   opened-state r = rw (e, r)
 
@@ -126,10 +126,10 @@ lines-decided (suc n) s terms h line at stashes counted =
     (λ f. lines-decided n s terms h (line + 1) (at + length (line_at s at)) _ _)
     (λ f r. absurd (eqb-false (refusal_of least_blocks (line_at s at) terms stashes) none f r)))
 
-commands-decided : (s : List ℕ) (lengths : Lengths) (h : HeaderRead) → Decided (commands_refusal least_blocks s lengths h)
+commands-decided : (s : List ℕ) (lengths : Lengths) (h : Result Header BadHeader) → Decided (commands_refusal least_blocks s lengths h)
 unfolding commands_refusal
-commands-decided s lengths (Good h) = lines-decided (suc (length s)) s (terms_of lengths h) h first_line h.first [] 0
-commands-decided s lengths (Bad line byte) = λ r. refl
+commands-decided s lengths (Ok h) = lines-decided (suc (length s)) s (terms_of lengths h) h first_line h.first [] 0
+commands-decided s lengths (Err bad) = λ r. refl
 
 open_decided : (s : List ℕ) (lengths : Lengths) → Decided (open_refusal least_blocks s lengths)
 unfolding open_refusal

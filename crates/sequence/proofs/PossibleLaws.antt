@@ -138,7 +138,7 @@ module _ (s : List ℕ) (lengths : Lengths) (h : Header) (p : Config) (v : Runni
   can_hold_true : can_hold h (table_of p.state) ≡ true
   unfolding can_hold
   can_hold_true =
-      both_is (le-leb p.state.count most_stashes v.fits.whole.count)
+      both_is (le-leb p.state.table.count most_stashes v.fits.whole.count)
       (both_is (ap no v.once)
       (both_is (ap no v.none-empty) (le-leb (blocks_held (held p.state)) h.blocks v.fits.blocks)))
 

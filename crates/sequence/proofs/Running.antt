@@ -24,10 +24,10 @@ use Rattle.rules.specs.declared.Terms.{Terms}
 use Rattle.transfer_list.specs.Header.{header_of, start_refusal}
 use Rattle.transfer_list.specs.Opening.{terms_of, lines_refusal}
 use Rattle.transfer_list.specs.declared.header.Header.{Header}
-use Rattle.transfer_list.specs.declared.header.HeaderRead.TheVariants.{Good}
 use Rattle.updater.specs.Effect.{InRun}
 use Rattle.updater.specs.Fits.{Fits}
 use Rattle.updater.specs.Steps.{Config}
+use Rattle.std.specs.Prelude.{Ok}
 
 -- ---- the walk of an opening that was accepted
 
@@ -79,7 +79,7 @@ pub record Running (s : List ℕ) (lengths : Lengths) (h : Header) (p : Config) 
   pub fits : Fits s (terms_of lengths h) p
   pub lent : Lent s lengths p
   pub start : (start_refusal s lengths).number ≡ none
-  pub header : header_of s ≡ Good h
+  pub header : header_of s ≡ Ok h
   pub at_line_lem : AtLine s h p.state
   pub once : held_twice (held p.state) ≡ false
   pub none-empty : holds_empty (held p.state) ≡ false

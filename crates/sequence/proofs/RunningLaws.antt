@@ -12,6 +12,7 @@ use lib.Dec.{ltb, eqb}
 use lib.ListN.{length, length-set}
 use Rattle.text.proofs.ChoiceLaws.{picks, both_true, either_false}
 use Rattle.text.proofs.LineLaws.{line_some, line-mark}
+use Rattle.text.specs.Read.{on_option}
 use Rattle.ranges.specs.Ranges.{least_blocks}
 use Rattle.ranges.specs.declared.RangeSet.{RangeSet}
 use Rattle.state.specs.Limits.{block_bytes}
@@ -19,16 +20,12 @@ use Rattle.state.specs.Refusals.{none}
 use Rattle.state.specs.Stashes.{Stash, table_of, held, find_in, size_at, younger}
 use Rattle.state.specs.States.{is_ready}
 use Rattle.state.specs.Stretches.{is_stretch}
-use Rattle.state.specs.declared.stashes.Found.{Found}
-use Rattle.state.specs.declared.stashes.Found.TheVariants.{At, Nothing}
 use Rattle.state.specs.declared.Lengths.{Lengths}
 use Rattle.state.specs.declared.Refusal.{Refusal}
 use Rattle.state.specs.declared.State.{State}
 use Rattle.command.specs.Commands.{command_of}
 use Rattle.command.specs.Filling.{fills}
-use Rattle.command.specs.Targets.{new_target, on_new_target}
-use Rattle.command.specs.declared.targets.NewTarget.{NewTarget}
-use Rattle.command.specs.declared.targets.NewTarget.TheVariants as new
+use Rattle.command.specs.Targets.{new_target}
 use Rattle.command.specs.declared.Command.{Command}
 use Rattle.command.specs.declared.Command.TheVariants as command
 use Rattle.command.proofs.CommandLaws.{command-ended, command-hash}
@@ -54,6 +51,7 @@ use Rattle.updater.proofs.FitLaws.{not_stopped, quiet-lengths, fits-sound}
 use Rattle.updater.proofs.AtLineLaws.{step_here, step}
 use Rattle.updater.proofs.RunLaws.{is_new}
 use Rattle.sequence.proofs.Running.{WalkLeft, OpenOrRefused, going, refused, IntoNew, Into, Ready, Lent, Running}
+use Rattle.std.specs.Prelude.{Option, Some, None}
 
 -- ---- the walk goes on
 
@@ -133,13 +131,13 @@ module _ (l : List ℕ) (xs : List Stash) (hash : List ℕ) (ready k : ℕ) (a :
       (λ t. tt)
       (λ t. let number = (filled l xs hash c a).refusal in picks (Tells c) (eqb number none) Filled (Refused number) (λ u. f) (λ u. tt)))
 
-  free_tells : (f : Found) → Tells command.Free (free_step xs k a f).end
+  free_tells : (f : Option ℕ) → Tells command.Free (free_step xs k a f).end
   unfolding free_step
-  free_tells (At j) =
+  free_tells (Some j) =
       picks (Tells command.Free) (is_stretch (size_at xs j) (younger xs j) (k + 1)) Stretched _
       (λ t. tt)
       (λ t. picks (Tells command.Free) (is_stretch (size_at xs j) (younger xs j) k) Ended Passed (λ u. tt) (λ u. tt))
-  free_tells Nothing = tt
+  free_tells None = tt
 
   step_tells : (c : Command) → Tells c (step_of l xs hash c ready k a).end
   unfolding step_of fills
@@ -313,10 +311,10 @@ needs_new : (c : Command) (n : ℕ) → n < new_bytes c → (set : RangeSet) × 
 unfolding new_bytes
 needs_new c n l = go (new_target c) refl l
   where
-    go : (t : NewTarget) → new_target c ≡ t → n < on_new_target t (λ set. block_bytes * set.blocks) 0 →
+    go : (t : Option RangeSet) → new_target c ≡ t → n < on_option t (λ set. block_bytes * set.blocks) 0 →
         (set : RangeSet) × (c ≡ command.New set) × (n < block_bytes * set.blocks)
-    go (new.Set set) e l = (set, is_new c e, l)
-    go new.None e l = absurd (omega arith)
+    go (Some set) e l = (set, is_new c e, l)
+    go None e l = absurd (omega arith)
 
 new_good : (l : List ℕ) (terms : Terms) (stashes : List Stash) {set : RangeSet} → (command_of least_blocks l).command ≡ command.New set →
     refusal_of least_blocks l terms stashes ≡ none → target_refusal terms set ≡ none

@@ -7,14 +7,12 @@ use Prim.Native.Nat.{ℕ}
 use native.Mathlib.Omega.{arith}
 use lib.ListN.{length, drop, take, length-drop, length-take, take-append-drop}
 use Rattle.text.specs.Number.{meets, reaches, can_meet, end_of as end_of_number, digits, number_from, number_for}
-use Rattle.text.specs.Expected.{expected_at, on_expected}
+use Rattle.text.specs.Expected.{expected_at}
 use Rattle.text.specs.Word.{is_first_word}
 use Rattle.ranges.specs.Ranges.{item_at, pair_at, pairs_at, set_at, size_of, end_of, summary, ranges_at, span, blocks_of}
 use Rattle.ranges.specs.Walk.{pairs_of, ranges_of, blocks_at, AllBelow}
 use Rattle.text.specs.Hash.{no_hash, hash_at}
-use Rattle.text.specs.declared.hash.Hash.{Hash}
 use Rattle.text.specs.Hex.{hex_of}
-use Rattle.text.specs.declared.expected.Expected.TheVariants as expected
 use Rattle.state.specs.Limits.{block_bytes}
 use Rattle.state.specs.Stashes.{same, find_in, is_held, size_at, blocks_held, without}
 use Rattle.state.specs.Stretches.{is_stretch, stretch_blocks}
@@ -37,12 +35,14 @@ use Rattle.updater.specs.Effect.{move_filled, filled, written_from, filled_writt
 use Rattle.sequence.specs.Samples.{text, Block, Digest, hex, bytes_of, patch_line, Table, Samples}
 use Rattle.updater.proofs.NewLaws.{put_bytes-append}
 use Rattle.text.proofs.HexLaws.{hash-written}
+use Rattle.text.specs.Read.{Read, on_read}
 use Rattle.sequence.proofs.RowLaws.{length-row, take_row, over-front, over_block, gathered-row, written_row, zeroed-row, put_front}
 use Rattle.sequence.proofs.RowLaws.{put-row, moved_row, picked_of, put_at}
+use Rattle.std.specs.Prelude.{Ok}
 
 -- ---- the hashes that the lines name
 
-hash_7 : (h : Digest) (rest : List ℕ) → hash_at (text "move " ++ (hex h ++ rest)) 5 ≡ record { read = expected.Past 45; bytes = h.bytes }
+hash_7 : (h : Digest) (rest : List ℕ) → hash_at (text "move " ++ (hex h ++ rest)) 5 ≡ Ok (h.bytes, 45)
 hash_7 h rest = hash-written (text "move ") h.bytes rest 5 h.whole h.each refl
 
 module _ (h x : Digest) (places : List ℕ) where
@@ -50,20 +50,20 @@ module _ (h x : Digest) (places : List ℕ) where
   abbrev line_8 : List ℕ
   line_8 = text "move " ++ hex h ++ text " 2,5,8 3 2,0,2 4,0,1,2,3 " ++ hex x ++ places
 
-  hash_8 : hash_at line_8 5 ≡ record { read = expected.Past 45; bytes = h.bytes }
+  hash_8 : hash_at line_8 5 ≡ Ok (h.bytes, 45)
   unfolding hex_of
   hash_8 = hash-written (text "move ") h.bytes (text " 2,5,8 3 2,0,2 4,0,1,2,3 " ++ (hex x ++ places)) 5 h.whole h.each refl
 
-  stash_8 : hash_at line_8 70 ≡ record { read = expected.Past 110; bytes = x.bytes }
+  stash_8 : hash_at line_8 70 ≡ Ok (x.bytes, 110)
   unfolding hex_of
   stash_8 = hash-written (text "move " ++ hex h ++ text " 2,5,8 3 2,0,2 4,0,1,2,3 ") x.bytes places 70 x.whole x.each refl
 
 -- H and T of a `bsdiff`
-hash_bsdiff : (h t : Digest) → hash_at (patch_line h t) 11 ≡ record { read = expected.Past 51; bytes = h.bytes }
+hash_bsdiff : (h t : Digest) → hash_at (patch_line h t) 11 ≡ Ok (h.bytes, 51)
 unfolding hex_of
 hash_bsdiff h t = hash-written (text "bsdiff 0 0 ") h.bytes (text " " ++ (hex t ++ text " 2,1,3 1 2,0,1\n")) 11 h.whole h.each refl
 
-result_bsdiff : (h t : Digest) → hash_at (patch_line h t) 52 ≡ record { read = expected.Past 92; bytes = t.bytes }
+result_bsdiff : (h t : Digest) → hash_at (patch_line h t) 52 ≡ Ok (t.bytes, 92)
 unfolding hex_of
 result_bsdiff h t = hash-written (text "bsdiff 0 0 " ++ hex h ++ text " ") t.bytes (text " 2,1,3 1 2,0,1\n") 52 t.whole t.each refl
 
@@ -75,10 +75,11 @@ wanted_bsdiff : (h t : Digest) → result_hash (patch_line h t) (patching_of (pa
 unfolding expected_at hex_of hash_field result_hash
 wanted_bsdiff h t =
     ap (result_hash (patch_line h t)) (hashes_bsdiff h t)
-    ∙ ap (λ (r : Hash). on_expected r.read (λ i. (hash_field (patch_line h t) i).bytes) (λ p. no_hash)) (hash_bsdiff h t)
-    ∙ ap (λ (r : Hash). r.bytes) (result_bsdiff h t)
+    ∙ ap (λ (r : Read (List ℕ)). on_read r (λ hash i. on_read (hash_field (patch_line h t) i) (λ digest next. digest) (λ p. no_hash)) (λ p. no_hash))
+    (hash_bsdiff h t)
+    ∙ ap (λ (r : Read (List ℕ)). on_read r (λ digest next. digest) (λ p. no_hash)) (result_bsdiff h t)
 
-hash_13 : (x : Digest) → hash_at (text "free " ++ hex x ++ text "\n") 5 ≡ record { read = expected.Past 45; bytes = x.bytes }
+hash_13 : (x : Digest) → hash_at (text "free " ++ hex x ++ text "\n") 5 ≡ Ok (x.bytes, 45)
 hash_13 x = hash-written (text "free ") x.bytes (text "\n") 5 x.whole x.each refl
 
 -- ---- the table

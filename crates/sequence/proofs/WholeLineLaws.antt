@@ -21,8 +21,6 @@ use Rattle.state.specs.States.{with_table}
 use Rattle.state.specs.Stashes.{Stash, table_of, held, find_in, size_at, blocks_held, stash_start, younger}
 use Rattle.state.specs.Stretches.{is_stretch, stretch_blocks}
 use Rattle.state.specs.declared.State.{State}
-use Rattle.state.specs.declared.stashes.Found.{Found}
-use Rattle.state.specs.declared.stashes.Found.TheVariants.{At, Nothing}
 use Rattle.state.proofs.StashLaws.{blocks_held-before}
 use Rattle.state.proofs.StretchLaws.{stretch_some, stretch_none, stretch_few}
 use Rattle.command.specs.Commands.{command_of}
@@ -44,6 +42,7 @@ use Rattle.updater.specs.Run.{machine, current_line, current_command, refusal_he
 use Rattle.updater.specs.Fits.{Fits}
 use Rattle.updater.proofs.FitLaws.{NotStopped}
 use Rattle.updater.proofs.AtLineLaws.{moves, step}
+use Rattle.std.specs.Prelude.{Option, Some, None}
 
 -- ---- bytes that move down
 
@@ -226,13 +225,13 @@ module _ (l hash : List ℕ) (c : Command) (fill : fills c ≡ true) (p : Config
 
 -- ---- `free`
 
-free_leads : (l hash : List ℕ) (p : Config) (f : Found) → find_in (held p.state) hash ≡ f →
+free_leads : (l hash : List ℕ) (p : Config) (f : Option ℕ) → find_in (held p.state) hash ≡ f →
     after l hash command.Free p ≡ step_to l hash command.Free p.state (free_step (held p.state) p.state.stretches p.areas f)
 unfolding after step_of
 free_leads l hash p f e =
-    ap (λ (g : Found). step_to l hash command.Free p.state (free_step (held p.state) p.state.stretches p.areas g)) e
+    ap (λ (g : Option ℕ). step_to l hash command.Free p.state (free_step (held p.state) p.state.stretches p.areas g)) e
 
-module _ (l hash : List ℕ) (p : Config) (j : ℕ) (found : find_in (held p.state) hash ≡ At j) where
+module _ (l hash : List ℕ) (p : Config) (j : ℕ) (found : find_in (held p.state) hash ≡ Some j) where
   -- the stash area after the next stretch
   abbrev next_stash : List ℕ
   next_stash = stretched (held p.state) j p.state.stretches p.areas.stash
@@ -250,13 +249,13 @@ module _ (l hash : List ℕ) (p : Config) (j : ℕ) (found : find_in (held p.sta
 
   free_more : more ≡ true → after l hash command.Free p ≡ stretch_more
   unfolding free_step state_after
-  free_more t = free_leads l hash p (At j) found ∙ rw t
+  free_more t = free_leads l hash p (Some j) found ∙ rw t
 
   -- the last one, with a stop or with none
   free_last : more ≡ false → after l hash command.Free p ≡ freed next_stash
   unfolding free_step state_after
   free_last t =
-      free_leads l hash p (At j) found
+      free_leads l hash p (Some j) found
       ∙ rw t (go (is_stretch (size_at (held p.state) j) (younger (held p.state) j) p.state.stretches))
     where
       go : (b : Bool) → config_of (with_stash p.areas next_stash) (state_after l hash command.Free p.state (pick b Ended Passed)) ≡ freed next_stash
@@ -264,11 +263,11 @@ module _ (l hash : List ℕ) (p : Config) (j : ℕ) (found : find_in (held p.sta
       go false = refl
 
 -- of a stash that is not held there is none to move
-free_nothing : (l hash : List ℕ) (p : Config) → find_in (held p.state) hash ≡ Nothing →
+free_nothing : (l hash : List ℕ) (p : Config) → find_in (held p.state) hash ≡ None →
     after l hash command.Free p
     ≡ config_of p.areas (passed (with_table p.state (table_after (table_of p.state) hash command.Free)) (length l))
 unfolding free_step state_after
-free_nothing l hash p e = free_leads l hash p Nothing e
+free_nothing l hash p e = free_leads l hash p None e
 
 -- ---- the steps of the machine
 
@@ -341,7 +340,7 @@ module _ (s : List ℕ) (terms : Terms) (Inv : Config → Type 0) (sound : Sound
 
   module _ (j : ℕ) (area : List ℕ) where
     -- the last stretch of a `free` of stash j, over the stash area as the line found it
-    free_ends : (p : Config) (found : find_in (held p.state) (hash_here s p) ≡ At j) → RunsHere command.Free p →
+    free_ends : (p : Config) (found : find_in (held p.state) (hash_here s p) ≡ Some j) → RunsHere command.Free p →
         (room : block_bytes * blocks_held (held p.state) ≤ length area) →
         Moved (held p.state) j area room p.state.stretches p.areas.stash →
         more (current_line s p) (hash_here s p) p j found ≡ false →
@@ -353,7 +352,7 @@ module _ (s : List ℕ) (terms : Terms) (Inv : Config → Type 0) (sound : Sound
         alike-step command.Free p _ r (free_last l hash p j found t ∙ ap (freed l hash p j found) e)
 
     -- the stretches that are left, no more than m
-    free_steps : (m : ℕ) (p : Config) (found : find_in (held p.state) (hash_here s p) ≡ At j) →
+    free_steps : (m : ℕ) (p : Config) (found : find_in (held p.state) (hash_here s p) ≡ Some j) →
         RunsHere command.Free p → (room : block_bytes * blocks_held (held p.state) ≤ length area) →
         younger (held p.state) j ≤ p.state.stretches + m →
         Moved (held p.state) j area room p.state.stretches p.areas.stash →
@@ -382,18 +381,18 @@ module _ (s : List ℕ) (terms : Terms) (Inv : Config → Type 0) (sound : Sound
   unfolding effect is_finished unfinished_effect
   free_whole p f z r = go (find_in (held p.state) (hash_here s p)) refl
     where
-      go : (x : Found) → find_in (held p.state) (hash_here s p) ≡ x →
+      go : (x : Option ℕ) → find_in (held p.state) (hash_here s p) ≡ x →
           Alike s terms Inv p
           (line_end (current_line s p) (hash_here s p) command.Free p.state
           (effect_of (with_stash p.areas (closed_found (held p.state) p.areas.stash x)) none))
-      go (At j) e =
+      go (Some j) e =
           let xs = held p.state in
           let k = p.state.stretches in
           let room : block_bytes * blocks_held xs ≤ length p.areas.stash = omega (arith, f.blocks, f.stash) in
           let unmoved : k * size_at xs j ≡ 0 = rw z (zero-mul (size_at xs j)) in
           free_steps j p.areas.stash (younger xs j) p e r room (omega arith)
           (rw unmoved (sym (moved_down-none p.areas.stash _ _)), omega arith)
-      go Nothing e = alike-step command.Free p _ r (free_nothing (current_line s p) (hash_here s p) p e)
+      go None e = alike-step command.Free p _ r (free_nothing (current_line s p) (hash_here s p) p e)
 
   -- THE LAW: from the start of a line, its steps come to what the whole line does
   pub line-whole : (p : Config) → Inv p → Fits s terms p → NotStopped s p → refusal_here least_blocks s terms p ≡ none →

@@ -48,7 +48,7 @@ NoStop o = o ≡ outcome.Stop → ⊥
 -- a state equals what the model gives: the model's stashes, current line, bytes into a `new` and refusal, and the lengths at opening; its total
 -- is the model's bytes taken (R-9), and nothing is ready or moved in part
 pub record Holds (opening : Lengths) (state : State) (m : Model) : Type 0 where
-  pub count : state.count ≡ length m.stashes
+  pub count : state.table.count ≡ length m.stashes
   pub stashes : held state ≡ m.stashes
   pub line : state.line ≡ m.line
   pub at : state.at ≡ m.at

@@ -12,14 +12,14 @@ use Rattle.machine.specs.Machine.{feeds, counts}
 use Rattle.updater.specs.Areas.{Areas}
 use Rattle.updater.specs.Steps.{Config}
 use Rattle.updater.specs.Run.{machine}
-use Rattle.updater.specs.Calls.{lengths_at, outcome_of, Result, result_of}
+use Rattle.updater.specs.Calls.{lengths_at, outcome_of, CallResult, result_of}
 use Rattle.updater.specs.declared.Outcome.TheVariants as outcome
 use Rattle.sequence.specs.Model.{Model, model, model_outcome}
 use Rattle.sequence.specs.Sequence.{no_calls, all_calls, last_says}
 use Rattle.sequence.specs.Claim.{opened_config, Accepted, NoStop, Holds}
 
 -- calls, until one does not stop: the first has the piece, and each after it the bytes not taken. A result is what they come to
-pub record CallsOn (s piece : List ℕ) (p : Config) (r : Result) : Type 0 where
+pub record CallsOn (s piece : List ℕ) (p : Config) (r : CallResult) : Type 0 where
   pub stops : ℕ
   pub areas : r.areas ≡ (all_calls least_blocks s (piece ∷ replicate stops []) (no_calls p)).config.areas
   pub state : r.called.state ≡ (all_calls least_blocks s (piece ∷ replicate stops []) (no_calls p)).config.state
@@ -28,7 +28,7 @@ pub record CallsOn (s piece : List ℕ) (p : Config) (r : Result) : Type 0 where
   pub ended : NoStop r.called.outcome
 
 -- a run past every stop, over all the data
-abbrev pub past_stops : List ℕ → Terms → List ℕ → Config → Result
+abbrev pub past_stops : List ℕ → Terms → List ℕ → Config → CallResult
 past_stops s terms bytes p =
     result_of (feeds (machine least_blocks s terms) bytes p).areas
     (record {
@@ -38,26 +38,26 @@ past_stops s terms bytes p =
     })
 
 -- a refused opening changes nothing and takes nothing
-abbrev pub open_refused : List ℕ → Areas → Result
+abbrev pub open_refused : List ℕ → Areas → CallResult
 open_refused s a =
     result_of a (record { state = (opened_config s a).state; outcome = outcome.Refused (open_refusal least_blocks s (lengths_at s a)); taken = 0 })
 
 -- an opening, and the run of all the data
-unfoldable pub run_all : List ℕ → Areas → List ℕ → Result
+unfoldable pub run_all : List ℕ → Areas → List ℕ → CallResult
 run_all s a bytes =
     pick (eqb (open_refusal least_blocks s (lengths_at s a)).number none)
     (past_stops s (terms_for s (lengths_at s a)) bytes (opened_config s a))
     (open_refused s a)
 
 -- a result is what the model gives
-pub record RunAgrees (s : List ℕ) (a : Areas) (r : Result) (m : Model) : Type 0 where
+pub record RunAgrees (s : List ℕ) (a : Areas) (r : CallResult) (m : Model) : Type 0 where
   pub areas : r.areas ≡ m.areas
   pub state : Holds (lengths_at s a) r.called.state m
   pub outcome : r.called.outcome ≡ model_outcome s m
   pub taken : r.called.taken ≡ m.taken
 
 -- what a run leaves and answers, on an accepted list, is what the model gives for all the data
-abbrev pub RunMeets : List ℕ → Areas → List ℕ → Result → Type 0
+abbrev pub RunMeets : List ℕ → Areas → List ℕ → CallResult → Type 0
 RunMeets s a bytes r = Accepted s a → RunAgrees s a r (model least_blocks s a bytes)
 
 -- THE CLAIM, of a run of all the data

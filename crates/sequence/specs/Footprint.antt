@@ -2,7 +2,7 @@
 -- areas the lines of a text may change, and which blocks of the image a command reads. Demand: of the image only a command's target blocks
 -- change.
 -- Assumes nothing: these are definitions.
-use Rattle.std.specs.Prelude.{◌≡◌, true, false, List, ℕ, ◌-◌, ◌/◌, ◌≤◌, length, get_or}
+use Rattle.std.specs.Prelude.{◌≡◌, true, false, List, ℕ, ◌-◌, ◌/◌, ◌≤◌, length, get_or, Result, Ok, Err}
 use Rattle.text.specs.Line.{line_at}
 use Rattle.text.specs.Expected.{lf}
 use Rattle.ranges.specs.Ranges.{least_blocks}
@@ -16,10 +16,10 @@ use Rattle.command.specs.declared.Command.TheVariants as command
 use Rattle.rules.specs.Move.{is_in}
 use Rattle.transfer_list.specs.Header.{header_of}
 use Rattle.transfer_list.specs.Opening.{first_at}
-use Rattle.transfer_list.specs.declared.header.HeaderRead.{HeaderRead}
-use Rattle.transfer_list.specs.declared.header.HeaderRead.TheVariants.{Good, Bad}
 use Rattle.updater.specs.Areas.{Areas, with_image}
 use Rattle.updater.specs.Effect.{Effect, effect_of, is_finished, effect}
+use Rattle.transfer_list.specs.declared.header.Header.{Header}
+use Rattle.transfer_list.specs.declared.header.BadHeader.{BadHeader}
 
 -- an area is as long as before, and its bytes in those blocks are as before
 pub record SameIn (blocks : ℕ → Type 0) (before after : List ℕ) : Type 0 where
@@ -56,9 +56,9 @@ abbrev pub command_at : List ℕ → ℕ → Command
 command_at s at = (command_of least_blocks (line_at s at)).command
 
 -- line 4
-unfoldable pub most_blocks : HeaderRead → ℕ
-most_blocks (Good h) = h.blocks
-most_blocks (Bad line byte) = 0
+unfoldable pub most_blocks : Result Header BadHeader → ℕ
+most_blocks (Ok h) = h.blocks
+most_blocks (Err bad) = 0
 
 -- a command line starts at a position of the text, and it is the one at `last` or an earlier one
 pub record UpTo (s : List ℕ) (last at : ℕ) : Type 0 where

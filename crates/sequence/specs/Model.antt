@@ -4,6 +4,7 @@
 use Rattle.std.specs.Prelude.{ℕ, zero, suc, ◌+◌, ◌*◌, List, [], length, take, drop, leb, eqb}
 use Rattle.text.specs.Choice.{pick}
 use Rattle.text.specs.Line.{line_at}
+use Rattle.text.specs.Read.{on_option}
 use Rattle.ranges.specs.Walk.{blocks_at}
 use Rattle.ranges.specs.declared.RangeSet.{RangeSet}
 use Rattle.state.specs.Limits.{block_bytes}
@@ -12,7 +13,7 @@ use Rattle.state.specs.Stashes.{Stash}
 use Rattle.state.specs.States.{refusing, no_refusal}
 use Rattle.state.specs.declared.Refusal.{Refusal}
 use Rattle.command.specs.Commands.{command_of}
-use Rattle.command.specs.Targets.{new_target, on_new_target}
+use Rattle.command.specs.Targets.{new_target}
 use Rattle.command.specs.declared.Line.{Line}
 use Rattle.rules.specs.Held.{held_after}
 use Rattle.transfer_list.specs.Header.{first_line, header_of}
@@ -104,7 +105,7 @@ do_effect next l line m xs e =
 -- one line
 abbrev pub do_line : (Model → List ℕ → Model) → List ℕ → Line → Model → List ℕ → Model
 do_line next l line m xs =
-    on_new_target (new_target line.command)
+    on_option (new_target line.command)
     (λ set. do_new next l set m xs)
     (do_effect next l line m xs (effect l m.stashes line.hash line.command m.areas))
 

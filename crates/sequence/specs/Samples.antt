@@ -2,7 +2,7 @@
 -- themselves: how range sets and lines are read, what a line is refused for, and what the model does with it. Document 02, R-7: 3 and 6 are
 -- refusals. In 7 and 8 the hash is taken to match, whatever it is; R-8: and the target's to differ from it.
 -- Assumes nothing: these are definitions.
-use Rattle.std.specs.Prelude.{◌≡◌, false, List, [], ◌∷◌, ◌++◌, ℕ, length, take, drop, replicate, eqb}
+use Rattle.std.specs.Prelude.{◌≡◌, false, List, [], ◌∷◌, ◌++◌, ℕ, length, take, drop, replicate, eqb, Ok, Err}
 use Prim.Native.Char.{code}
 use Prim.Native.String.{String, [] as []ˢ, ◌∷◌ as ◌∷ˢ◌}
 use Rattle.std.proofs.lemmas.List.{length-replicate}
@@ -12,7 +12,6 @@ use Rattle.text.specs.Hash.{hash_bytes}
 use Rattle.text.specs.Hex.{hex_of}
 use Rattle.ranges.specs.Ranges.{least_blocks, ranges_at}
 use Rattle.ranges.specs.Walk.{blocks_at, AllBelow}
-use Rattle.ranges.specs.declared.Ranges.TheVariants as ranges
 use Rattle.state.specs.Limits.{block_bytes}
 use Rattle.state.specs.Refusals.{none, line_form}
 use Rattle.state.specs.Stashes.{Stash, blocks_held}
@@ -62,7 +61,7 @@ hex h = hex_of hash_bytes h.bytes
 -- the whole text is a range set of n blocks
 pub record Sized (t : List ℕ) (n : ℕ) : Type 0 where
   pub end : ℕ
-  pub read : ranges_at least_blocks t 0 ≡ ranges.Good (record { at = 0; blocks = n; end = end }) (length t)
+  pub read : ranges_at least_blocks t 0 ≡ Ok (record { at = 0; blocks = n; end = end }, (length t))
 
 -- the whole text is a range set of these blocks
 pub record Names (t blocks : List ℕ) : Type 0 where
@@ -71,7 +70,7 @@ pub record Names (t blocks : List ℕ) : Type 0 where
 
 -- no range set stands at the text's start, and its fault is at that position (document 02, R-6)
 abbrev pub IllFormed : List ℕ → ℕ → Type 0
-IllFormed t fault = ranges_at least_blocks t 0 ≡ ranges.Bad fault
+IllFormed t fault = ranges_at least_blocks t 0 ≡ Err fault
 
 -- the line is ill formed, and its fault is at that position
 pub record IllFormedLine (l : List ℕ) (terms : Terms) (fault : ℕ) : Type 0 where

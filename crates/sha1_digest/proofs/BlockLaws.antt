@@ -1,5 +1,5 @@
 -- Laws of blocks. Assumes nothing.
-use Rattle.std.proofs.Common.{◌≡◌, ℕ, zero, suc, ◌+◌, ◌*◌, ◌/◌, ◌%◌, ◌<◌, ◌≤◌, Bool, true, false, ltb, List, ◌++◌, length, get_or, take, drop, sym, refl, ap, ◌∙◌, add-zero, add-suc, add-one, arith, length-append, length-drop, take-append-drop, length-take-le, get_or-append-add, ltb-true}
+use Rattle.std.proofs.Common.{◌≡◌, ℕ, zero, suc, ◌+◌, ◌*◌, ◌/◌, ◌%◌, ◌<◌, ◌≤◌, Bool, true, false, ltb, List, ◌++◌, length, get_or, take, drop, sym, refl, ap, ◌∙◌, add-zero, add-suc, arith, length-append, length-drop, take-append-drop, length-take-le, get_or-append-add, ltb-true}
 use lib.ListN.{get_or-append}
 use Rattle.sha1_digest.specs.declared.HashValue.{HashValue}
 use Rattle.sha1_digest.specs.Sha1 as S
@@ -33,10 +33,6 @@ module _ (p q : List ℕ) (i j : ℕ) (same : (k : ℕ) → k < 64 → get_or p 
   same_block h = rw (same-schedule 80)
 
 -- ---- the blocks of two lists, the first of which has i whole blocks
-
-pub blocks_more : (h : HashValue) (p : List ℕ) (n : ℕ) → S.blocks h p (n + 1) ≡ S.compress (S.blocks h p n) p (64 * n)
-unfolding S.blocks
-blocks_more h p n = rw add-one
 
 blocks-first : (h : HashValue) (a b : List ℕ) (n : ℕ) → 64 * n ≤ length a → S.blocks h (a ++ b) n ≡ S.blocks h a n
 unfolding S.blocks
@@ -73,6 +69,16 @@ unfolding S.hash S.blocks
 hash_short h s l =
     let n : length s / 64 ≡ 0 = omega arith in
     rw n
+
+pub hash_one : (h : HashValue) (s : List ℕ) → length s ≡ 64 → S.hash h s ≡ S.compress h s 0
+unfolding S.hash S.blocks
+hash_one h s l =
+    let n : length s / 64 ≡ 1 = omega arith in
+    rw n refl
+
+-- the first block of a list, and then the others
+pub hash_cons : (h : HashValue) (s b r : List ℕ) → s ≡ b ++ r → length b ≡ 64 → S.hash (S.compress h b 0) r ≡ S.hash h s
+hash_cons h s b r e l = rw (e, hash-join h b r (omega arith), hash_one h b l) refl
 
 -- the bytes past the last whole block make no difference
 pub hash-whole : (h : HashValue) (s : List ℕ) (n : ℕ) → n ≡ length s / 64 * 64 → S.hash h (take n s) ≡ S.hash h s

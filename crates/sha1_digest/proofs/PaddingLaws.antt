@@ -1,8 +1,10 @@
 -- Laws of the padding. Assumes nothing.
-use Rattle.std.proofs.Common.{◌≡◌, ℕ, zero, suc, ◌+◌, ◌-◌, ◌*◌, ◌/◌, ◌%◌, ◌^◌, ◌<◌, ◌≤◌, List, ◌∷◌, ◌++◌, length, get_or, take, drop, set, replicate, sym, refl, ap, ◌∙◌, append_assoc, add-one, arith, length-append, length-drop, take-append-drop, length-take-le, take_all, drop-cons, take-suc}
-use native.Mathlib.Nat.{sub-zero, zero-sub, suc-sub-suc}
+use Rattle.std.proofs.Common.{◌≡◌, ℕ, suc, ◌+◌, ◌-◌, ◌*◌, ◌/◌, ◌%◌, ◌^◌, ◌<◌, List, ◌∷◌, ◌++◌, length, get_or, take, drop, set, replicate, sym, ap, ◌∙◌, append_assoc, add-one, arith, length-append, length-drop, take-append-drop, length-take-le, drop-cons}
 use lib.ListN.{length-replicate}
-use lib.Seq.{append_snoc, set_at, set-append_seam, take-append-add, paste, length-paste, take-paste}
+use lib.Seq.{set-append_seam, take-append-add}
+use borrow.Rule.Slice.PartMut.{put_mid}
+use Rattle.std.proofs.lemmas.List.{take-replicate, drop-replicate}
+use Rattle.std.proofs.lemmas.Slice.{take-put_mid}
 use Rattle.sha1_digest.specs.declared.HashValue.{HashValue}
 use Rattle.sha1_digest.specs.Sha1 as S
 use Rattle.sha1_digest.specs.Sha1.Padding.{length-bytes}
@@ -34,16 +36,6 @@ hash-padded h m n at e =
 
 -- ---- a buffer that is written in place
 
--- one byte more of s stands at the start of d
-pub copy_more : (d s : List ℕ) (i : ℕ) → i < length d → i < length s → set (take i s ++ drop i d) i (get_or s i 0) ≡ take (i + 1) s ++ drop (i + 1) d
-copy_more d s i hd hs =
-    let v : ℕ = get_or s i 0 in
-    rw add-one
-    (ap (λ (r : List ℕ). set (take i s ++ r) i v) (drop-cons d i 0 hd)
-    ∙ set_at (take i s) (get_or d i 0) (drop (suc i) d) v i (length-take-le i s (omega arith))
-    ∙ sym (append_snoc (take i s) v (drop (suc i) d))
-    ∙ ap (λ (r : List ℕ). r ++ drop (suc i) d) (sym (take-suc s i 0 hs)))
-
 -- a byte stands behind s
 pub put-behind : (d s : List ℕ) (v : ℕ) → length s < length d → set (s ++ drop (length s) d) (length s) v ≡ s ++ (v ∷ drop (length s + 1) d)
 put-behind d s v h =
@@ -51,33 +43,15 @@ put-behind d s v h =
     (ap (λ (r : List ℕ). set (s ++ r) (length s) v) (drop-cons d (length s) 0 h)
     ∙ set-append_seam s (get_or d (length s) 0) (drop (suc (length s)) d) v)
 
-drop-replicate : (n k a : ℕ) → drop k (replicate n a) ≡ replicate (n - k) a
-drop-replicate n zero a = rw sub-zero
-drop-replicate zero (suc k) a = rw zero-sub
-drop-replicate (suc n) (suc k) a = rw suc-sub-suc (drop-replicate n k a)
-
-take-replicate : (n k a : ℕ) → k ≤ n → take k (replicate n a) ≡ replicate k a
-take-replicate n zero a h = refl
-take-replicate zero (suc k) a h = absurd (omega arith)
-take-replicate (suc n) (suc k) a h = ap (λ (l : List ℕ). a ∷ l) (take-replicate n k a (omega arith))
-
--- ---- the buffer of `close`: 128 zeros, with the message's last bytes r and 0x80, and then a number x before e
+-- ---- the buffer of `close`: 128 zeros, with the message's last bytes r and 0x80 at its start
 
 abbrev pub with_rest : List ℕ → List ℕ
 with_rest r = r ++ (0x80 ∷ drop (length r + 1) (replicate 128 0))
-
-abbrev pub with_number : List ℕ → ℕ → ℕ → List ℕ
-with_number r e x = paste (with_rest r) (e - 8) (S.bytes 8 x) 8
 
 pub length-with_rest : (r : List ℕ) → length r < 64 → length (with_rest r) ≡ 128
 length-with_rest r h = simp (length-append, length-drop, length-replicate) (omega arith)
 
 module _ (r : List ℕ) (e : ℕ) (h : length r < 64) (l : e ≡ length r + 9 + S.zero_bytes (length r)) where
-  pub length-with_number : (x : ℕ) → length (with_number r e x) ≡ 128
-  length-with_number x =
-      length-paste (with_rest r) (e - 8) (S.bytes 8 x) 8 (omega (arith, length-with_rest r h)) (omega (arith, length-bytes 8 x))
-      ∙ length-with_rest r h
-
   take-with_rest : take (e - 8) (with_rest r) ≡ r ++ (0x80 ∷ replicate (S.zero_bytes (length r)) 0)
   take-with_rest =
       let z : ℕ = S.zero_bytes (length r) in
@@ -86,18 +60,15 @@ module _ (r : List ℕ) (e : ℕ) (h : length r < 64) (l : e ≡ length r + 9 + 
       ap (λ (k : ℕ). take k (r ++ (0x80 ∷ zeros))) k
       ∙ take-append-add r (0x80 ∷ zeros) (suc z)
       ∙ ap (λ (l : List ℕ). r ++ (0x80 ∷ l))
-      (ap (take z) (drop-replicate 128 (length r + 1) 0) ∙ take-replicate (128 - (length r + 1)) z 0 (omega arith))
+      (ap (take z) (drop-replicate (length r + 1) 128 0) ∙ take-replicate z (128 - (length r + 1)) 0 (omega arith))
 
-  -- its first e bytes are the padded ones, where x is the length in bits modulo 2 ^ 64
-  pub take-with_number : (n : ℕ) → take e (with_number r e (n * 8 % 2 ^ 64)) ≡ S.padded r n
+  -- its first e bytes are the padded ones, once the length in bits modulo 2 ^ 64 stands before e
+  pub take-padded : (n k : ℕ) (s : List ℕ) → s ≡ S.bytes 8 (n * 8 % 2 ^ 64) → take e (put_mid (e - 8) k (with_rest r) s) ≡ S.padded r n
   unfolding S.padded
-  take-with_number n =
-      let s : List ℕ = S.bytes 8 (n * 8 % 2 ^ 64) in
+  take-padded n k s b =
       let q : List ℕ = 0x80 ∷ replicate (S.zero_bytes (length r)) 0 in
-      let k : e ≡ e - 8 + 8 = omega arith in
-      let b : length s ≡ 8 = length-bytes 8 (n * 8 % 2 ^ 64) in
-      ap (λ (j : ℕ). take j (with_number r e (n * 8 % 2 ^ 64))) k
-      ∙ take-paste (with_rest r) (e - 8) s 8 (omega (arith, length-with_rest r h)) (omega arith)
-      ∙ ap (λ (a : List ℕ). a ++ take 8 s) take-with_rest
-      ∙ ap (λ (a : List ℕ). r ++ q ++ a) (take_all 8 s (omega arith) ∙ same_bytes (n * 8 % 2 ^ 64) (8 * n) (omega arith))
+      let d : e ≡ e - 8 + length s = omega (arith, ap length b, length-bytes 8 (n * 8 % 2 ^ 64)) in
+      take-put_mid (e - 8) k (with_rest r) s e d (omega (arith, length-with_rest r h))
+      ∙ ap (λ (a : List ℕ). a ++ s) take-with_rest
+      ∙ ap (λ (a : List ℕ). r ++ q ++ a) (b ∙ same_bytes (n * 8 % 2 ^ 64) (8 * n) (omega arith))
       ∙ append_assoc r q (S.bytes 8 (8 * n))

@@ -1,17 +1,17 @@
 -- Laws of the message schedule. Assumes nothing.
-use Rattle.std.proofs.Common.{◌≡◌, ℕ, ◌+◌, ◌-◌, ◌*◌, ◌<◌, ◌≤◌, List, length, get_or, take, set, add-one, arith, get_or-take, take-suc-set, le-ltb, lt-ltb}
+use Rattle.std.proofs.Common.{◌≡◌, ℕ, ◌+◌, ◌-◌, ◌*◌, ◌<◌, ◌≤◌, List, length, get_or, take, set, add-one, zero-add, arith, get_or-take, take-suc-set, le-ltb, lt-ltb}
 use lib.Bits.{bit_xor}
 use Rattle.sha1_digest.specs.Sha1 as S
 
-pub next-first : (p : List ℕ) (i : ℕ) (W : List ℕ) (t : ℕ) → t < 16 → S.next p i W t ≡ S.word p (i + 4 * t)
+pub next_first : (p W : List ℕ) (t : ℕ) → t < 16 → S.next p 0 W t ≡ S.word p (4 * t)
 unfolding S.next
-next-first p i W t h = simp (lt-ltb t 16 h)
+next_first p W t h = simp (lt-ltb t 16 h, zero-add)
 
-pub next-later : (p : List ℕ) (i : ℕ) (W w : List ℕ) (t : ℕ) → 16 ≤ t → take t w ≡ W
+pub next_later : (p : List ℕ) (i : ℕ) (W w : List ℕ) (t : ℕ) → 16 ≤ t → take t w ≡ W
     → S.rotl 1 (bit_xor (bit_xor (bit_xor (get_or w (t - 3) 0) (get_or w (t - 8) 0)) (get_or w (t - 14) 0)) (get_or w (t - 16) 0))
     ≡ S.next p i W t
 unfolding S.next
-next-later p i W w t h e =
+next_later p i W w t h e =
     let e3 : get_or (take t w) (t - 3) 0 ≡ get_or w (t - 3) 0 = get_or-take t w (t - 3) 0 (omega arith) in
     let e8 : get_or (take t w) (t - 8) 0 ≡ get_or w (t - 8) 0 = get_or-take t w (t - 8) 0 (omega arith) in
     let e14 : get_or (take t w) (t - 14) 0 ≡ get_or w (t - 14) 0 = get_or-take t w (t - 14) 0 (omega arith) in
@@ -19,7 +19,7 @@ next-later p i W w t h e =
     simp (le-ltb t 16 h, ← e) (cc)
 
 -- a store of the next word makes one word more of the schedule
-pub schedule-more : (p : List ℕ) (i t : ℕ) (w : List ℕ) (v : ℕ) → t < length w → take t w ≡ S.schedule p i t
+pub schedule_more : (p : List ℕ) (i t : ℕ) (w : List ℕ) (v : ℕ) → t < length w → take t w ≡ S.schedule p i t
     → v ≡ S.next p i (S.schedule p i t) t → take (t + 1) (set w t v) ≡ S.schedule p i (t + 1)
 unfolding S.schedule
-schedule-more p i t w v h e n = rw (add-one, take-suc-set) (cc)
+schedule_more p i t w v h e n = rw (add-one, take-suc-set) (cc)

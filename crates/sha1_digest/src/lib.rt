@@ -34,9 +34,8 @@ pub struct Hasher {
 pub fn digest(s: &[u8]) -> [u8; 20]
     ensures { result ≡ sha1 s.now }
 {
-    let h = block::hash(hash_value::initial(), s);
-    let at = s.len() / 64 * 64;
-    padding::close(h, &s[at..], s.len() as u64)
+    let h = block::hash(hash_value::INITIAL, s);
+    padding::close(h, s.chunks_exact(64).remainder(), s.len() as u64)
 }
 
 // A hasher that has taken in nothing.
@@ -44,7 +43,7 @@ pub fn start() -> Hasher
     ensures { result ≡ started }
 {
     Hasher {
-        value: hash_value::initial(),
+        value: hash_value::INITIAL,
         count: 0,
     }
 }
@@ -56,7 +55,7 @@ pub fn absorb(h: Hasher, s: &[u8]) -> Hasher
     let taken = s.len() / 64 * 64;
     Hasher {
         value: block::hash(h.value, s),
-        count: std::num::wrapping_add_u64(h.count, taken as u64),
+        count: h.count.wrapping_add(taken as u64),
     }
 }
 

@@ -10,113 +10,76 @@
 #![tactic(auto)]
 
 use records::buffers::{fill_pattern, part, put};
-use records::fields::{number, rest, which};
-use records::streams::{INPUT_ROOM, read_full, say, say_hex};
+use records::fields::{field, number, rest};
+use records::streams::{Hex, read_input, say};
 use sha1_digest::Hasher;
+use std::alloc::AllocError;
 
 const MESSAGE_ROOM: usize = 1000000;
 
-// The length of the message, how much of it is taken in, and the hasher that took it.
-#[derive(Clone, Copy)]
+// The message, how much of it is taken in, and the hasher that took it.
+#[derive(Drop)]
 struct Vector {
-    len: usize,
+    message: Vec<u8>,
     taken: usize,
     hasher: Hasher,
 }
 
+impl Vector {
+    fn start(&mut self) {
+        self.message.clear();
+        self.taken = 0;
+        self.hasher = sha1_digest::start();
+    }
+
+    fn pattern(&mut self, n: usize) -> Result<(), AllocError> {
+        self.message.clear();
+        self.message.resize(n.min(MESSAGE_ROOM), 0)?;
+        fill_pattern(&mut self.message);
+        Ok(())
+    }
+
+    fn absorb(&mut self, n: usize, length: usize) {
+        for _ in 0..n {
+            let piece = part(&self.message, self.taken, length);
+            self.hasher = sha1_digest::absorb(self.hasher, piece);
+            self.taken = self.taken.saturating_add(piece.len());
+        }
+    }
+}
+
 fn show(out: &impl Print, digest: [u8; 20]) {
-    for byte in &digest {
-        say_hex(out, *byte);
-    }
-    say(out, b"\n");
-}
-
-fn absorb(message: &[u8], n: usize, length: usize, v: Vector) -> Vector {
-    let mut hasher = v.hasher;
-    let mut taken = v.taken;
-    let mut left = n;
-    while 0 < left {
-        let piece = part(message, taken, length);
-        hasher = sha1_digest::absorb(hasher, piece);
-        taken = taken.wrapping_add(piece.len());
-        left -= 1;
-    }
-    Vector {
-        len: v.len,
-        taken,
-        hasher,
-    }
-}
-
-fn start() -> Vector {
-    Vector {
-        len: 0,
-        taken: 0,
-        hasher: sha1_digest::start(),
-    }
-}
-
-fn finish(out: &impl Print, v: Vector) -> Vector {
-    let hasher = v.hasher;
-    show(out, sha1_digest::finish(hasher));
-    v
-}
-
-// A line that is no other adds to the message.
-fn lengthened(message: &mut [u8], line: &[u8], v: Vector) -> Vector {
-    let mut next = v;
-    next.len = put(message, v.len, line);
-    next
-}
-
-fn pattern(message: &mut [u8], n: usize, v: Vector) -> Vector {
-    fill_pattern(message);
-    let mut next = v;
-    next.len = n;
-    next
+    let _ = println!(out; "{}", Hex(&digest));
 }
 
 // What a line of input does.
-fn step(out: &impl Print, line: &[u8], message: &mut [u8], v: Vector) -> Vector {
-    match which(line, b"case start pattern digest absorb finish") {
-        0 => {
+fn step(out: &impl Print, line: &[u8], v: &mut Vector) -> Result<(), AllocError> {
+    match field(line, 0) {
+        b"case" => {
             say(out, rest(line, 1));
             say(out, b" ");
-            v
         }
-        1 => start(),
-        2 => pattern(message, number(line, 1), v),
-        3 => {
-            show(out, sha1_digest::digest(part(&*message, 0, v.len)));
-            v
-        }
-        4 => {
-            let whole = part(&*message, 0, v.len);
-            absorb(whole, number(line, 1), number(line, 2), v)
-        }
-        5 => finish(out, v),
-        _ => lengthened(message, line, v),
+        b"start" => v.start(),
+        b"pattern" => v.pattern(number(line, 1))?,
+        b"digest" => show(out, sha1_digest::digest(&v.message)),
+        b"absorb" => v.absorb(number(line, 1), number(line, 2)),
+        b"finish" => show(out, sha1_digest::finish(v.hasher)),
+        _ => put(&mut v.message, line, MESSAGE_ROOM)?,
     }
+    Ok(())
 }
 
-// The lines of the input, one after the other.
-fn run(out: &impl Print, text: &[u8], message: &mut [u8; MESSAGE_ROOM]) {
-    let mut v = start();
-    let mut from = 0;
-    let mut i = 0;
-    while i < text.len() {
-        if text[i] == b'\n' {
-            let line = &text[from..i];
-            from = i + 1;
-            v = step(out, line, message, v);
+fn main(rt: HostRuntime) -> Result<(), AllocError> {
+    let text = read_input(rt.alloc(), &rt);
+    let mut v = Vector {
+        message: Vec::new(rt.alloc()),
+        taken: 0,
+        hasher: sha1_digest::start(),
+    };
+    for line in text.split_inclusive(|b| *b == b'\n') {
+        if let Some(line) = line.strip_suffix(b"\n") {
+            step(&rt, line, &mut v)?;
         }
-        i += 1;
     }
-}
-
-fn main(rt: HostRuntime) {
-    let mut text = [0u8; INPUT_ROOM];
-    let n = read_full(&mut rt.reader(), &mut text);
-    let mut message = [0u8; MESSAGE_ROOM];
-    run(&rt, &text[..n], &mut message);
+    Ok(())
 }

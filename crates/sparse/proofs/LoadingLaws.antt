@@ -8,7 +8,7 @@ use lib.ListN.{length, get_or, set, take, drop, length-append, length-take, leng
 use lib.Seq.{get_or-append-add}
 use borrow.Author.Tests.{eq-eqb, ne_eqb, eqb-true}
 use Rattle.copy.specs.Over.{front}
-use Rattle.copy.proofs.OverLaws.{front-more, part_back}
+use Rattle.copy.proofs.OverLaws.{front_more, part_back}
 use Rattle.state.specs.Limits.{block_bytes}
 use Rattle.state.specs.Refusals.{none}
 use Rattle.text.proofs.ChoiceLaws.{no_false}
@@ -43,13 +43,13 @@ filled area bytes k = take k (repeated (length area / fill_bytes) bytes) ++ drop
 
 -- four stores fill four bytes more
 module _ (area bytes : List ℕ) (four : length bytes ≡ fill_bytes) (whole : length area % fill_bytes ≡ 0) where
-  fill_one : (i j k m : ℕ) → i % fill_bytes ≡ 0 → i < length area → j < fill_bytes → k ≡ i + j → m ≡ suc k →
+  fill_one : (i j k m : ℕ) → i % fill_bytes ≡ 0 → i < length area → j < fill_bytes → k ≡ i + j → m ≡ k + 1 →
       set (filled area bytes k) k (get_or bytes j 0) ≡ filled area bytes m
   fill_one i j k m t h l e f =
       let n = length-repeated bytes four (length area / fill_bytes) in
       let g : fill_bytes * (i / fill_bytes) + j ≡ k = omega arith in
       let v = rw g at (repeated-at bytes four (length area / fill_bytes) (i / fill_bytes) j (omega arith) l) in
-      rw f (rw v at (front-more (repeated (length area / fill_bytes) bytes) area k (omega arith) (omega arith)))
+      rw f (rw v at (front_more (repeated (length area / fill_bytes) bytes) area k (omega arith) (omega arith)))
 
   fill_more : (i : ℕ) → i % fill_bytes ≡ 0 → i < length area →
       set (set (set (set (filled area bytes i) i (get_or bytes 0 0)) (i + 1) (get_or bytes 1 0)) (i + 2) (get_or bytes 2 0)) (i + 3) (get_or bytes 3 0)

@@ -7,7 +7,7 @@ ghost use Rattle.sparse_file.specs.Chunks.{chunks_of};
 ghost use Rattle.sparse.specs.Loading.{repeated, chunk_over, chunks_over};
 
 use copy::copy_in;
-use sparse_file::chunk::{Chunk, ChunkRead, Kind, read_chunk};
+use sparse_file::chunk::{Chunk, Kind, read_chunk};
 use sparse_file::header::{HEADER_BYTES, total_blocks, total_chunks};
 use state::limits::BLOCK_BYTES;
 
@@ -21,7 +21,8 @@ fn put_four(part: &mut [u8], at: usize, a: u8, b: u8, c: u8, d: u8)
     part[at + 3] = d;
 }
 
-// Four bytes over all of a part, again and again. Sixteen stores in a row are compiled to one.
+// Four bytes over all of a part, again and again. Sixteen stores in a row are compiled to one; with the four bytes in an array they are not, and
+// a fill took 1.5 of the time.
 fn fill_in(part: &mut [u8], bytes: &[u8])
     requires { (length part.old % (4 * fill_bytes) ≡ 0) × (length bytes.now ≡ fill_bytes) }
     ensures { part.new ≡ repeated (length part.old / fill_bytes) bytes.now }
@@ -45,14 +46,12 @@ fn write_chunk(file: &[u8], image: &mut [u8], chunk: Chunk)
     requires blocks_in_image { block_bytes * (chunk.first + chunk.blocks) ≤ length image.old }
     ensures { image.new ≡ chunk_over file.now chunk image.old }
 {
-    let kind = chunk.kind;
-    let body = chunk.body;
-    let next = chunk.next;
     let start = BLOCK_BYTES * chunk.first as usize;
     let end = start + BLOCK_BYTES * chunk.blocks as usize;
-    match kind {
-        Kind::Raw => copy_in(&mut image[start..end], &file[body..next]),
-        Kind::Fill => fill_in(&mut image[start..end], &file[body..next]),
+    let body = &file[chunk.body..chunk.next];
+    match chunk.kind {
+        Kind::Raw => copy_in(&mut image[start..end], body),
+        Kind::Fill => fill_in(&mut image[start..end], body),
         Kind::DontCare => {}
     }
 }
@@ -63,16 +62,14 @@ pub(crate) fn write_chunks(file: &[u8], image: &mut [u8])
     ensures { image.new ≡ chunks_over file.now (chunks_of file.now).list image.old }
 {
     let total = total_blocks(file);
-    let mut left = total_chunks(file);
     let mut at = HEADER_BYTES;
-    let mut first: u32 = 0;
-    while 0 < left {
-        let ChunkRead::Good(chunk) = read_chunk(file, at, first, total) else {
+    let mut first = 0;
+    'chunks: for _ in 0..total_chunks(file) {
+        let Ok(chunk) = read_chunk(file, at, first, total) else {
             return;
         };
         write_chunk(file, image, chunk);
         at = chunk.next;
         first += chunk.blocks;
-        left -= 1;
     }
 }

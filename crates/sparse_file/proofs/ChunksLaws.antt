@@ -6,12 +6,13 @@ use Prim.Native.Nat.{ℕ, zero, suc, ◌+◌, ◌-◌, ◌<◌}
 use native.Mathlib.Omega.{arith}
 use lib.ListN.{length}
 use borrow.Author.Tests.{eq-eqb, ne_eqb}
-use Rattle.state.specs.Refusals.{none, sparse_end}
+use Rattle.std.specs.Prelude.{Ok, Err}
+use Rattle.state.specs.Refusals.{none, sparse_end, number_of}
+use Rattle.state.specs.declared.refusals.Reason.{Reason}
 use Rattle.sparse_file.specs.Header.{header_bytes, total_blocks, total_chunks}
 use Rattle.sparse_file.specs.Chunk.{chunk_at}
 use Rattle.sparse_file.specs.Chunks.{stopped, follow, chunks_at, chunks_of}
 use Rattle.sparse_file.specs.declared.chunk.Chunk.{Chunk}
-use Rattle.sparse_file.specs.declared.chunk.ChunkRead.TheVariants.{Good, Bad}
 
 -- all of them, where the walk starts
 pub chunks_start : (file : List ℕ) (n total : ℕ) → n ≡ total_chunks file → total ≡ total_blocks file →
@@ -20,13 +21,13 @@ unfolding chunks_of
 chunks_start file n total e f = rw (e, f)
 
 module _ (file : List ℕ) (at first total : ℕ) where
-  pub chunks_bad : (n : ℕ) → 0 < n → {number : ℕ} → chunk_at file at first total ≡ Bad number →
-      chunks_at n file at first total ≡ stopped number
+  pub chunks_bad : (n : ℕ) → 0 < n → {reason : Reason} → chunk_at file at first total ≡ Err reason →
+      chunks_at n file at first total ≡ stopped (number_of reason)
   unfolding chunks_at
   chunks_bad zero h e = absurd (omega arith)
   chunks_bad (suc n) h e = rw e
 
-  pub chunks_good : (n : ℕ) → 0 < n → {c : Chunk} → chunk_at file at first total ≡ Good c →
+  pub chunks_good : (n : ℕ) → 0 < n → {c : Chunk} → chunk_at file at first total ≡ Ok c →
       chunks_at n file at first total ≡ follow c (chunks_at (n - 1) file c.next (first + c.blocks) total)
   unfolding chunks_at
   chunks_good zero h e = absurd (omega arith)

@@ -1,18 +1,17 @@
 -- Document 02, R-2: one chunk of a sparse file, which that paper calls a piece: type, two reserved bytes (ignored), blocks, total bytes
 -- with its header; then its body. Raw carries its blocks, fill four bytes, don't-care nothing.
 -- Assumes nothing: these are definitions.
-use Rattle.std.specs.Prelude.{ℕ, ◌+◌, ◌-◌, ◌*◌, Bool, List, [], ◌∷◌, length, leb, ltb, eqb}
+use Rattle.std.specs.Prelude.{ℕ, ◌+◌, ◌-◌, ◌*◌, Bool, List, [], ◌∷◌, length, leb, ltb, eqb, Result, Ok, Err}
 use Rattle.text.specs.Choice.{pick, both, either, no}
 use Rattle.text.specs.Rows.{Row, ◌⇒◌, first_of}
 use Rattle.state.specs.Limits.{block_bytes}
-use Rattle.state.specs.Refusals.{none, sparse_chunk, sparse_past_image, sparse_checksum}
+use Rattle.state.specs.declared.refusals.Reason.{Reason}
+use Rattle.state.specs.declared.refusals.Reason.TheVariants as reason
 use Rattle.little_endian.specs.LittleEndian.{two_at, four_at}
 use Rattle.sparse_file.specs.Header.{chunk_header_bytes}
 use Rattle.sparse_file.specs.declared.chunk.Kind.{Kind}
 use Rattle.sparse_file.specs.declared.chunk.Kind.TheVariants.{Raw, Fill, DontCare}
 use Rattle.sparse_file.specs.declared.chunk.Chunk.{Chunk}
-use Rattle.sparse_file.specs.declared.chunk.ChunkRead.{ChunkRead}
-use Rattle.sparse_file.specs.declared.chunk.ChunkRead.TheVariants.{Good, Bad}
 
 -- ---- the fields of the chunk at a position of the file
 
@@ -81,12 +80,12 @@ is_past first blocks total = ltb total (first + blocks)
 
 -- 35 for a 0xCAC4 chunk with all its header bytes, always; else the lowest: 33 header or body cut short, unknown type, zero blocks or
 -- wrong byte total; 34 past the image
-abbrev pub chunk_rows : List ℕ → ℕ → ℕ → ℕ → List (Row ℕ)
+abbrev pub chunk_rows : List ℕ → ℕ → ℕ → ℕ → List (Row (Result Chunk Reason))
 chunk_rows file at first total =
-    both (has_header file at) (eqb (type_at file at) checksum_type) ⇒ sparse_checksum
-    ∷ no (has_header file at) ⇒ sparse_chunk
-    ∷ no (is_formed (length file - at) (type_at file at) (blocks_at file at) (bytes_at file at)) ⇒ sparse_chunk
-    ∷ is_past first (blocks_at file at) total ⇒ sparse_past_image
+    both (has_header file at) (eqb (type_at file at) checksum_type) ⇒ Err reason.SparseChecksum
+    ∷ no (has_header file at) ⇒ Err reason.SparseChunk
+    ∷ no (is_formed (length file - at) (type_at file at) (blocks_at file at) (bytes_at file at)) ⇒ Err reason.SparseChunk
+    ∷ is_past first (blocks_at file at) total ⇒ Err reason.SparsePastImage
     ∷ []
 
 -- what it is, which of the image's blocks it has, where its body lies in the file and where the next chunk does
@@ -100,8 +99,5 @@ chunk_from file at first =
       next = at + bytes_at file at;
     }
 
-abbrev pub read_of : ℕ → Chunk → ChunkRead
-read_of number chunk = pick (eqb number none) (Good chunk) (Bad number)
-
-unfoldable pub chunk_at : List ℕ → ℕ → ℕ → ℕ → ChunkRead
-chunk_at file at first total = read_of (first_of (chunk_rows file at first total) none) (chunk_from file at first)
+unfoldable pub chunk_at : List ℕ → ℕ → ℕ → ℕ → Result Chunk Reason
+chunk_at file at first total = first_of (chunk_rows file at first total) (Ok (chunk_from file at first))

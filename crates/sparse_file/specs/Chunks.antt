@@ -3,22 +3,17 @@
 -- Assumes nothing: these are definitions.
 use Rattle.std.specs.Prelude.{ℕ, zero, suc, ◌+◌, List, [], ◌∷◌, length, eqb}
 use Rattle.text.specs.Choice.{no}
+use Rattle.text.specs.Read.{on_result}
 use Rattle.text.specs.Rows.{Row, ◌⇒◌, first_of}
-use Rattle.state.specs.Refusals.{none, sparse_end}
+use Rattle.state.specs.Refusals.{none, sparse_end, number_of}
 use Rattle.sparse_file.specs.Header.{header_bytes, total_blocks, total_chunks}
 use Rattle.sparse_file.specs.Chunk.{chunk_at}
 use Rattle.sparse_file.specs.declared.chunk.Chunk.{Chunk}
-use Rattle.sparse_file.specs.declared.chunk.ChunkRead.{ChunkRead}
-use Rattle.sparse_file.specs.declared.chunk.ChunkRead.TheVariants.{Good, Bad}
 
 -- those before the first refusal, and its number; all of them, and none
 pub record Chunks : Type 0 where
   pub list : List Chunk
   pub refusal : ℕ
-
-abbrev pub on_chunk : {A : Type 0} → ChunkRead → (Chunk → A) → (ℕ → A) → A
-on_chunk (Good chunk) good bad = good chunk
-on_chunk (Bad number) good bad = bad number
 
 abbrev pub stopped : ℕ → Chunks
 stopped number = record { list = []; refusal = number }
@@ -37,7 +32,7 @@ end_rows file at first total =
 unfoldable pub chunks_at : ℕ → List ℕ → ℕ → ℕ → ℕ → Chunks
 chunks_at zero file at first total = stopped (first_of (end_rows file at first total) none)
 chunks_at (suc n) file at first total =
-    on_chunk (chunk_at file at first total) (λ c. follow c (chunks_at n file c.next (first + c.blocks) total)) stopped
+    on_result (chunk_at file at first total) (λ c. follow c (chunks_at n file c.next (first + c.blocks) total)) (λ r. stopped (number_of r))
 
 unfoldable pub chunks_of : List ℕ → Chunks
 chunks_of file = chunks_at (total_chunks file) file header_bytes 0 (total_blocks file)

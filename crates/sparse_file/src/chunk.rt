@@ -1,11 +1,12 @@
 // One chunk of a sparse file.
-ghost use Rattle.std.specs.Prelude.{◌≡◌, ◌-◌};
+ghost use Rattle.std.specs.Prelude.{◌≡◌, true, false};
+ghost use Rattle.std.specs.Option.{MatchOption};
 ghost use Rattle.sparse_file.specs.Chunk.{is_known, kind_of, body_bytes, is_formed, is_past, chunk_at};
 
 use crate::header::CHUNK_HEADER_BYTES;
 use little_endian::{read_u16, read_u32};
 use state::limits::BLOCK_BYTES;
-use state::refusals::{SPARSE_CHECKSUM, SPARSE_CHUNK, SPARSE_PAST_IMAGE};
+use state::refusals::Reason;
 
 const RAW_TYPE: u16 = 0xCAC1;
 
@@ -18,7 +19,7 @@ const CHECKSUM_TYPE: u16 = 0xCAC4;
 // Bytes that a fill repeats.
 const FILL_BYTES: usize = 4;
 
-#[derive(Clone, Copy)]
+#[derive(Clone, Copy, Debug, PartialEq, Eq)]
 pub enum Kind {
     Raw,
     Fill,
@@ -35,34 +36,16 @@ pub struct Chunk {
     pub next: usize,
 }
 
-// A chunk, or the number of its refusal.
-#[derive(Clone, Copy)]
-pub enum ChunkRead {
-    Good(Chunk),
-    Bad(usize),
-}
-
-#[tactic(auto, unfolding(crate::specs::Chunk::is_known))]
-fn is_known(tag: u16) -> bool
-    ensures { result ≡ is_known tag }
+// The kind of a type, where it is a known one.
+#[tactic(auto, unfolding(crate::specs::Chunk::is_known, crate::specs::Chunk::kind_of))]
+fn kind_of(tag: u16) -> Option<Kind>
+    ensures { MatchOption result (is_known tag ≡ false) (λ kind. (is_known tag ≡ true) × (kind ≡ kind_of tag)) }
 {
     match tag {
-        RAW_TYPE => true,
-        FILL_TYPE => true,
-        DONT_CARE_TYPE => true,
-        _ => false,
-    }
-}
-
-// The kind of a known type.
-#[tactic(auto, unfolding(crate::specs::Chunk::kind_of))]
-fn kind_of(tag: u16) -> Kind
-    ensures { result ≡ kind_of tag }
-{
-    match tag {
-        RAW_TYPE => Kind::Raw,
-        FILL_TYPE => Kind::Fill,
-        _ => Kind::DontCare,
+        RAW_TYPE => Some(Kind::Raw),
+        FILL_TYPE => Some(Kind::Fill),
+        DONT_CARE_TYPE => Some(Kind::DontCare),
+        _ => None,
     }
 }
 
@@ -77,31 +60,17 @@ fn body_bytes(kind: Kind, blocks: u32) -> usize
     }
 }
 
-// The bytes from a position on; 0 past the end.
-fn bytes_left(length: usize, at: usize) -> usize
-    ensures { result ≡ length - at }
-{
-    if length < at {
-        return 0;
-    }
-    length - at
-}
-
-// A chunk whose header is there, with so many bytes of the file from its start on: body, type, blocks and total are good.
+// The kind of a chunk whose header is there, with so many bytes of the file from its start on, where body, type, blocks and total are good.
 #[tactic(auto, using(crate::proofs::ChunkLaws::body_bytes_most), unfolding(crate::specs::Chunk::is_formed))]
-fn is_formed(room: usize, tag: u16, blocks: u32, bytes: usize) -> bool
-    ensures { result ≡ is_formed room tag blocks bytes }
+fn formed_kind(room: usize, tag: u16, blocks: u32, bytes: usize) -> Option<Kind>
+    ensures { MatchOption result (is_formed room tag blocks bytes ≡ false)
+        (λ kind. (is_formed room tag blocks bytes ≡ true) × (kind ≡ kind_of tag)) }
 {
-    if room < bytes {
-        return false;
+    let kind = kind_of(tag)?;
+    if room < bytes || blocks == 0 || bytes != CHUNK_HEADER_BYTES + body_bytes(kind, blocks) {
+        return None;
     }
-    if !is_known(tag) {
-        return false;
-    }
-    if blocks == 0 {
-        return false;
-    }
-    bytes == CHUNK_HEADER_BYTES + body_bytes(kind_of(tag), blocks)
+    Some(kind)
 }
 
 fn is_past(first: u32, blocks: u32, total: u32) -> bool
@@ -112,35 +81,30 @@ fn is_past(first: u32, blocks: u32, total: u32) -> bool
 
 // The chunk at a position, with the blocks of all chunks before it and the blocks of the image.
 #[tactic(auto, unfolding(crate::specs::Chunk::chunk_at))]
-pub fn read_chunk(file: &[u8], at: usize, first: u32, total: u32) -> ChunkRead
+pub fn read_chunk(file: &[u8], at: usize, first: u32, total: u32) -> Result<Chunk, Reason>
     ensures { result ≡ chunk_at file.now at first total }
 {
-    let room = bytes_left(file.len(), at);
+    let room = file.len().saturating_sub(at);
     if room < CHUNK_HEADER_BYTES {
-        return ChunkRead::Bad(SPARSE_CHUNK);
+        return Err(Reason::SparseChunk);
     }
     let tag = read_u16(file, at);
     if tag == CHECKSUM_TYPE {
-        return ChunkRead::Bad(SPARSE_CHECKSUM);
+        return Err(Reason::SparseChecksum);
     }
     let blocks = read_u32(file, at + 4);
     let bytes = read_u32(file, at + 8) as usize;
-    let formed = is_formed(room, tag, blocks, bytes);
-    let inside = !is_past(first, blocks, total);
-    if !formed {
-        return ChunkRead::Bad(SPARSE_CHUNK);
+    let Some(kind) = formed_kind(room, tag, blocks, bytes) else {
+        return Err(Reason::SparseChunk);
+    };
+    if is_past(first, blocks, total) {
+        return Err(Reason::SparsePastImage);
     }
-    if !inside {
-        return ChunkRead::Bad(SPARSE_PAST_IMAGE);
-    }
-    let kind = kind_of(tag);
-    let body = at + CHUNK_HEADER_BYTES;
-    let next = at + bytes;
-    ChunkRead::Good(Chunk {
+    Ok(Chunk {
         kind,
         first,
         blocks,
-        body,
-        next,
+        body: at + CHUNK_HEADER_BYTES,
+        next: at + bytes,
     })
 }

@@ -1,10 +1,11 @@
 // The header of a sparse file.
 ghost use Rattle.std.specs.Prelude.{◌≡◌};
+ghost use Rattle.state.specs.Refusals.{checked_number};
 ghost use Rattle.sparse_file.specs.Header.{total_blocks, total_chunks, header_refusal, image_refusal};
 
 use little_endian::{read_u16, read_u32};
 use state::limits::{BLOCK_BYTES, MOST_IMAGE_BLOCKS};
-use state::refusals::{SPARSE_HEADER, SPARSE_IMAGE, SPARSE_SIZES};
+use state::refusals::Reason;
 
 pub const HEADER_BYTES: usize = 28;
 
@@ -26,43 +27,34 @@ pub fn total_chunks(file: &[u8]) -> u32
     read_u32(file, 20)
 }
 
-// What the header is refused for, 0 for nothing.
+// What the header is refused for.
 #[tactic(auto, unfolding(crate::specs::Header::header_refusal))]
-pub fn check_header(file: &[u8]) -> usize
-    ensures { result ≡ header_refusal file.now }
+pub fn check_header(file: &[u8]) -> Result<(), Reason>
+    ensures { checked_number result ≡ header_refusal file.now }
 {
-    if file.len() < HEADER_BYTES {
-        return SPARSE_HEADER;
+    if file.len() < HEADER_BYTES
+        || read_u32(file, 0) != SPARSE_MARK
+        || read_u16(file, 4) != SPARSE_MAJOR
+    {
+        return Err(Reason::SparseHeader);
     }
-    if read_u32(file, 0) != SPARSE_MARK {
-        return SPARSE_HEADER;
+    if read_u16(file, 8) as usize != HEADER_BYTES
+        || read_u16(file, 10) as usize != CHUNK_HEADER_BYTES
+        || read_u32(file, 12) as usize != BLOCK_BYTES
+    {
+        return Err(Reason::SparseSizes);
     }
-    if read_u16(file, 4) != SPARSE_MAJOR {
-        return SPARSE_HEADER;
-    }
-    if read_u16(file, 8) as usize != HEADER_BYTES {
-        return SPARSE_SIZES;
-    }
-    if read_u16(file, 10) as usize != CHUNK_HEADER_BYTES {
-        return SPARSE_SIZES;
-    }
-    if read_u32(file, 12) as usize != BLOCK_BYTES {
-        return SPARSE_SIZES;
-    }
-    0
+    Ok(())
 }
 
-// Whether an image of so many bytes has the header's blocks: the number of the refusal, 0 for none.
+// Whether an image of so many bytes has the header's blocks.
 #[tactic(auto, unfolding(crate::specs::Header::image_refusal))]
-pub fn check_image(file: &[u8], bytes: usize) -> usize
-    ensures { result ≡ image_refusal (total_blocks file.now) bytes }
+pub fn check_image(file: &[u8], bytes: usize) -> Result<(), Reason>
+    ensures { checked_number result ≡ image_refusal (total_blocks file.now) bytes }
 {
     let total = total_blocks(file) as usize;
-    if bytes != BLOCK_BYTES * total {
-        return SPARSE_IMAGE;
+    if bytes != BLOCK_BYTES * total || MOST_IMAGE_BLOCKS < total {
+        return Err(Reason::SparseImage);
     }
-    if MOST_IMAGE_BLOCKS < total {
-        return SPARSE_IMAGE;
-    }
-    0
+    Ok(())
 }

@@ -16,253 +16,201 @@
 //   every                    reads each part of the file from its start, and at last the whole: the numbers, and from which length on
 #![tactic(auto)]
 
-ghost use Rattle.std.specs.Prelude.{◌≤◌};
-
-use records::buffers::{fill_pattern, part};
-use records::fields::{number, rest, which};
-use records::streams::{INPUT_ROOM, read_full, say, say_hex, say_number};
+use records::buffers::{append, fill_pattern, part};
+use records::fields::{field, number, rest};
+use records::streams::{Hex, read_input, say};
 use state::limits::BLOCK_BYTES;
+use state::refusals::Reason;
+use std::alloc::AllocError;
 
 const FILE_ROOM: usize = 65536;
 
 const IMAGE_ROOM: usize = 65536;
 
-// The lengths of the file and of the image.
-#[derive(Clone, Copy)]
+// A sparse file, and the bytes of the image that it is read over.
+#[derive(Drop)]
 struct Case {
-    file: usize,
-    image: usize,
+    file: Vec<u8>,
+    image: Vec<u8>,
 }
 
-fn say_digest(out: &impl Print, d: [u8; 20]) {
-    for byte in &d {
-        say_hex(out, *byte);
+// Puts bytes in the place of those at a position, as far as there are any.
+fn put_over(file: &mut [u8], at: usize, bytes: &[u8]) {
+    for (to, from) in file.iter_mut().skip(at).zip(bytes) {
+        *to = *from;
     }
 }
 
-// A number of so many bytes, the lowest first; the answer is the position past it.
-fn put_number(file: &mut [u8], at: usize, n: usize, bytes: usize) -> usize {
-    let mut rest = n;
-    let mut next = at;
-    let mut i = 0;
-    while i < bytes {
-        if file.len() <= next {
-            return next;
-        }
-        file[next] = (rest % 256) as u8;
-        rest = rest / 256;
-        next += 1;
-        i += 1;
+// A number's lowest bytes, the lowest first.
+fn low_bytes(n: usize) -> [u8; 8] {
+    n.to_le_bytes()
+}
+
+impl Case {
+    fn start(&mut self) -> Result<(), AllocError> {
+        self.file.clear();
+        self.image_of(3 * BLOCK_BYTES)
     }
-    next
-}
 
-// N bytes, each `step` more than the last one, modulo 256.
-fn put_bytes(file: &mut [u8], at: usize, n: usize, first: u8, step: u8) -> usize {
-    let mut value = first;
-    let mut next = at;
-    let mut i = 0;
-    while i < n {
-        if file.len() <= next {
-            return next;
-        }
-        file[next] = value;
-        value = value.wrapping_add(step);
-        next += 1;
-        i += 1;
+    fn image_of(&mut self, bytes: usize) -> Result<(), AllocError> {
+        self.image.resize(bytes.min(IMAGE_ROOM), 0)
     }
-    next
-}
 
-fn put_header(file: &mut [u8], at: usize, blocks: usize, chunks: usize) -> usize {
-    let a = put_number(file, at, 0xED26FF3A, 4);
-    let b = put_number(file, a, 1, 4);
-    let c = put_number(file, b, 28, 2);
-    let d = put_number(file, c, 12, 2);
-    let e = put_number(file, d, 4096, 4);
-    let f = put_number(file, e, blocks, 4);
-    let g = put_number(file, f, chunks, 4);
-    put_number(file, g, 0, 4)
-}
-
-fn put_chunk(file: &mut [u8], at: usize, tag: usize, blocks: usize, bytes: usize) -> usize {
-    let a = put_number(file, at, tag, 4);
-    let b = put_number(file, a, blocks, 4);
-    put_number(file, b, bytes, 4)
-}
-
-// No more than the file has room for.
-fn bounded(n: usize) -> usize
-    ensures { result ≤ 65536 }
-{
-    if FILE_ROOM < n {
-        return FILE_ROOM;
+    fn add(&mut self, bytes: &[u8]) -> Result<(), AllocError> {
+        append(&mut self.file, bytes, FILE_ROOM)
     }
-    n
-}
 
-// What a line adds to the file, or changes in it; the answer is the file's length then.
-fn put(file: &mut [u8], at: usize, line: &[u8]) -> usize {
-    match which(line, b"header raw fill keep chunk bytes put2 put4 cut") {
-        0 => put_header(file, at, number(line, 1), number(line, 2)),
-        1 => {
-            let bytes = BLOCK_BYTES * bounded(number(line, 1));
-            let next = put_chunk(file, at, 0xCAC1, number(line, 1), 12 + bytes);
-            put_bytes(file, next, bytes, 3, 5)
+    fn two(&mut self, n: usize) -> Result<(), AllocError> {
+        self.add(&low_bytes(n)[..2])
+    }
+
+    fn four(&mut self, n: usize) -> Result<(), AllocError> {
+        self.add(&low_bytes(n)[..4])
+    }
+
+    fn header(&mut self, blocks: usize, chunks: usize) -> Result<(), AllocError> {
+        self.four(0xED26FF3A)?;
+        self.four(1)?;
+        self.two(28)?;
+        self.two(12)?;
+        self.four(4096)?;
+        self.four(blocks)?;
+        self.four(chunks)?;
+        self.four(0)
+    }
+
+    fn chunk(&mut self, tag: usize, blocks: usize, bytes: usize) -> Result<(), AllocError> {
+        self.four(tag)?;
+        self.four(blocks)?;
+        self.four(bytes)
+    }
+
+    // n bytes, each `step` more than the last one, modulo 256.
+    fn bytes(&mut self, n: usize, first: u8, step: u8) -> Result<(), AllocError> {
+        let mut value = first;
+        for _ in 0..n.min(FILE_ROOM) {
+            self.add(&[value])?;
+            value = value.wrapping_add(step);
         }
-        2 => {
-            let a = put_chunk(file, at, 0xCAC2, number(line, 1), 16);
-            let b = put_number(file, a, number(line, 2), 1);
-            let c = put_number(file, b, number(line, 3), 1);
-            let d = put_number(file, c, number(line, 4), 1);
-            put_number(file, d, number(line, 5), 1)
+        Ok(())
+    }
+
+    fn raw(&mut self, blocks: usize) -> Result<(), AllocError> {
+        let bytes = BLOCK_BYTES * blocks.min(FILE_ROOM);
+        self.chunk(0xCAC1, blocks, 12 + bytes)?;
+        self.bytes(bytes, 3, 5)
+    }
+
+    fn fill(&mut self, line: &[u8]) -> Result<(), AllocError> {
+        self.chunk(0xCAC2, number(line, 1), 16)?;
+        for k in 2..6 {
+            self.add(&low_bytes(number(line, k))[..1])?;
         }
-        3 => put_chunk(file, at, 0xCAC3, number(line, 1), 12),
-        4 => put_chunk(file, at, number(line, 1), number(line, 2), number(line, 3)),
-        5 => put_bytes(file, at, number(line, 1), (number(line, 2) % 256) as u8, 0),
-        6 => {
-            put_number(file, number(line, 1), number(line, 2), 2);
-            at
+        Ok(())
+    }
+
+    // What a line adds to the file, or changes in it.
+    fn put(&mut self, line: &[u8]) -> Result<(), AllocError> {
+        let n = number(line, 1);
+        let m = number(line, 2);
+        match field(line, 0) {
+            b"header" => self.header(n, m)?,
+            b"raw" => self.raw(n)?,
+            b"fill" => self.fill(line)?,
+            b"keep" => self.chunk(0xCAC3, n, 12)?,
+            b"chunk" => self.chunk(n, m, number(line, 3))?,
+            b"bytes" => self.bytes(n, low_bytes(m)[0], 0)?,
+            b"put2" => put_over(&mut self.file, n, &low_bytes(m)[..2]),
+            b"put4" => put_over(&mut self.file, n, &low_bytes(m)[..4]),
+            b"cut" => self.file.truncate(n),
+            _ => {}
         }
-        7 => {
-            put_number(file, number(line, 1), number(line, 2), 4);
-            at
+        Ok(())
+    }
+
+    fn load(&mut self, out: &impl Print) {
+        fill_pattern(&mut self.image);
+        let before = sha1_digest::digest(&self.image);
+        let loaded = sparse::load(&self.file, &mut self.image);
+        let after = sha1_digest::digest(&self.image);
+        let _ = match loaded {
+            Ok(()) => println!(out; "loaded {}", Hex(&after)),
+            Err(reason) => {
+                let k = reason.number();
+                let image = if before == after { "kept" } else { "changed" };
+                println!(out; "refused {k} {image}")
+            }
+        };
+    }
+
+    // Each part of the file but the whole; a number is printed where it is another one than before.
+    fn load_parts(&mut self, out: &impl Print) {
+        let mut last = Ok(());
+        for n in 0..self.file.len() {
+            let loaded = sparse::load(part(&self.file, 0, n), &mut self.image);
+            if loaded != last {
+                let k = number_of(loaded);
+                let _ = print!(out; "refused {k} from {n}, ");
+                last = loaded;
+            }
         }
-        8 => number(line, 1),
-        _ => at,
+    }
+
+    fn every(&mut self, out: &impl Print) {
+        fill_pattern(&mut self.image);
+        let before = sha1_digest::digest(&self.image);
+        self.load_parts(out);
+        if before != sha1_digest::digest(&self.image) {
+            say(out, b"changed, ");
+        }
+        self.load(out);
     }
 }
 
-fn say_refused(out: &impl Print, k: usize) {
-    say(out, b"refused ");
-    say_number(out, k);
-}
-
-fn load(out: &impl Print, file: &[u8], image: &mut [u8]) {
-    fill_pattern(image);
-    let before = sha1_digest::digest(&*image);
-    let k = sparse::load(file, image);
-    let after = sha1_digest::digest(&*image);
-    if k == 0 {
-        say(out, b"loaded ");
-        say_digest(out, after);
-        say(out, b"\n");
-        return;
-    }
-    say_refused(out, k);
-    if before == after {
-        say(out, b" kept\n");
-    } else {
-        say(out, b" changed\n");
+fn number_of(loaded: Result<(), Reason>) -> usize {
+    match loaded {
+        Ok(()) => 0,
+        Err(reason) => reason.number(),
     }
 }
 
 fn check(out: &impl Print, file: &[u8], image: usize) {
-    let k = sparse::check_load(file, image);
-    if k == 0 {
-        say(out, b"good\n");
-        return;
-    }
-    say_refused(out, k);
-    say(out, b"\n");
-}
-
-// Each part of the file but the whole; a number is printed where it is another one than before.
-fn load_parts(out: &impl Print, file: &[u8], image: &mut [u8]) {
-    let mut last: usize = 0;
-    let mut n = 0;
-    while n < file.len() {
-        let k = sparse::load(&file[..n], image);
-        if k != last {
-            say_refused(out, k);
-            say(out, b" from ");
-            say_number(out, n);
-            say(out, b", ");
-            last = k;
+    let _ = match sparse::check_load(file, image) {
+        Ok(()) => println!(out; "good"),
+        Err(reason) => {
+            let k = reason.number();
+            println!(out; "refused {k}")
         }
-        n += 1;
-    }
+    };
 }
 
-fn every(out: &impl Print, file: &[u8], image: &mut [u8]) {
-    fill_pattern(image);
-    let before = sha1_digest::digest(&*image);
-    load_parts(out, file, image);
-    let after = sha1_digest::digest(&*image);
-    if before != after {
-        say(out, b"changed, ");
-    }
-    load(out, file, image);
-}
-
-fn first_bytes(image: &mut [u8], n: usize) -> &mut [u8] {
-    if n <= image.len() {
-        return &mut image[..n];
-    }
-    image
-}
-
-// What a line of input does; the answer is the lengths after it.
-fn step(out: &impl Print, line: &[u8], file: &mut [u8], image: &mut [u8], c: Case) -> Case {
-    let image_length = c.image;
-    match which(line, b"case image load check every") {
-        0 => {
+// What a line of input does.
+fn step(out: &impl Print, line: &[u8], case: &mut Case) -> Result<(), AllocError> {
+    match field(line, 0) {
+        b"case" => {
             say(out, rest(line, 1));
             say(out, b": ");
-            Case {
-                file: 0,
-                image: 3 * BLOCK_BYTES,
-            }
+            case.start()?;
         }
-        1 => Case {
-            file: c.file,
-            image: number(line, 1),
-        },
-        2 => {
-            load(
-                out,
-                part(&*file, 0, c.file),
-                first_bytes(image, image_length),
-            );
-            c
-        }
-        3 => {
-            check(out, part(&*file, 0, c.file), number(line, 1));
-            c
-        }
-        4 => {
-            every(
-                out,
-                part(&*file, 0, c.file),
-                first_bytes(image, image_length),
-            );
-            c
-        }
-        _ => Case {
-            file: put(file, c.file, line),
-            image: image_length,
-        },
+        b"image" => case.image_of(number(line, 1))?,
+        b"load" => case.load(out),
+        b"check" => check(out, &case.file, number(line, 1)),
+        b"every" => case.every(out),
+        _ => case.put(line)?,
     }
+    Ok(())
 }
 
-// The lines of the input, one after the other.
-fn run(out: &impl Print, text: &[u8], file: &mut [u8; FILE_ROOM], image: &mut [u8; IMAGE_ROOM]) {
-    let mut c = Case { file: 0, image: 0 };
-    let mut from = 0;
-    let mut i = 0;
-    while i < text.len() {
-        if text[i] == b'\n' {
-            c = step(out, &text[from..i], file, image, c);
-            from = i + 1;
+fn main(rt: HostRuntime) -> Result<(), AllocError> {
+    let text = read_input(rt.alloc(), &rt);
+    let mut case = Case {
+        file: Vec::new(rt.alloc()),
+        image: Vec::new(rt.alloc()),
+    };
+    for line in text.split_inclusive(|b| *b == b'\n') {
+        if let Some(line) = line.strip_suffix(b"\n") {
+            step(&rt, line, &mut case)?;
         }
-        i += 1;
     }
-}
-
-fn main(rt: HostRuntime) {
-    let mut text = [0u8; INPUT_ROOM];
-    let n = read_full(&mut rt.reader(), &mut text);
-    let mut file = [0u8; FILE_ROOM];
-    let mut image = [0u8; IMAGE_ROOM];
-    run(&rt, &text[..n], &mut file, &mut image);
+    Ok(())
 }

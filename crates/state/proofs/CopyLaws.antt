@@ -1,13 +1,12 @@
--- Laws of copies into a list: what a copy leaves, what it brings, and a move downwards within one list, element by element.
+-- Laws of copies into a list: what a copy leaves, and what it brings.
 -- Assumes nothing.
-use mathlib.Core.Path.{◌≡◌, refl, sym, ap, ◌∙◌}
+use mathlib.Core.Path.{◌≡◌, sym, ap, ◌∙◌}
 use mathlib.Core.List.{List, ◌++◌}
-use Prim.Native.Nat.{ℕ, ◌+◌, ◌-◌, ◌≤◌, ◌<◌}
-use native.Mathlib.Numerals.{add-one}
+use Prim.Native.Nat.{ℕ, ◌+◌, ◌≤◌, ◌<◌}
 use native.Mathlib.Omega.{arith}
-use lib.ListN.{length, take, drop, get_or, set, length-append, length-drop, length-set, take-append-drop, get_or-append}
-use lib.Seq.{paste, paste-zero, paste-suc, drop-paste, take-append-le, drop-append-le, drop-append-add}
-use lib.Seq.{get_or-append-add, get_or-drop, get_or-take, length-take-le}
+use lib.ListN.{length, take, drop, get_or, length-append, length-drop, take-append-drop, get_or-append}
+use lib.Seq.{paste, take-append-le, drop-append-le, drop-append-add}
+use lib.Seq.{get_or-append-add, get_or-take, length-take-le}
 
 module _ (xs ys : List ℕ) (a k : ℕ) where
   part_left : a + k ≤ length xs → take k (drop a (xs ++ ys)) ≡ take k (drop a xs)
@@ -52,43 +51,3 @@ module _ (d s : List ℕ) (at n : ℕ) (room : at + n ≤ length d) (enough : n 
       ∙ ap (λ (k : ℕ). get_or (take at d ++ take n s) (k + i) 0) (sym l)
       ∙ get_or-append-add (take at d) (take n s) i 0
       ∙ get_or-take n s i 0 h
-
--- ---- a move downwards
-
--- what a move downwards reads is as it was
-pub ahead : (d : List ℕ) (to from n i : ℕ) → to ≤ from → i < n → from + n ≤ length d
-    → get_or (paste d to (drop from d) i) (from + i) 0 ≡ get_or (drop from d) i 0
-ahead d to from n i h k l =
-    let e : from + i ≡ (to + i) + (from - to) = omega arith in
-    ap (λ (x : ℕ). get_or (paste d to (drop from d) i) x 0) e
-    ∙ sym (get_or-drop (to + i) (paste d to (drop from d) i) (from - to) 0)
-    ∙ ap (λ (x : List ℕ). get_or x (from - to) 0) (drop-paste d to (drop from d) i (omega arith) (simp length-drop (omega arith)))
-    ∙ get_or-drop (to + i) d (from - to) 0
-    ∙ ap (λ (x : ℕ). get_or d x 0) (sym e)
-    ∙ sym (get_or-drop from d i 0)
-
--- after i turns of n, from the list d: the first i elements are moved, and the others are as they were
-pub record MovedDown (d : List ℕ) (to from n : ℕ) (a : List ℕ) (i : ℕ) : Type 0 where
-  pub turns : i ≤ n
-  pub size : length a ≡ length d
-  pub elements : a ≡ paste d to (drop from d) i
-
-module _ (d : List ℕ) (to from n : ℕ) where
-  pub moved_none : MovedDown d to from n d 0
-  moved_none = record { turns = omega arith; size = refl; elements = paste-zero d to (drop from d) }
-
-  pub moved-next : {a : List ℕ} {i : ℕ} → to ≤ from → from + n ≤ length d → MovedDown d to from n a i → i < n
-      → MovedDown d to from n (set a (to + i) (get_or a (from + i) 0)) (i + 1)
-  moved-next {a} {i} h l m k =
-      record {
-        turns = omega arith;
-        size = simp length-set m.size;
-        elements =
-            rw (m.elements, ahead d to from n i h k l, add-one)
-            (paste-suc d to (drop from d) i 0 (omega arith) (simp length-drop (omega arith)));
-      }
-
-  pub moved_all : {a : List ℕ} {i : ℕ} → MovedDown d to from n a i → n ≤ i → a ≡ paste d to (drop from d) n
-  moved_all {a} {i} m h =
-      let e : i ≡ n = omega arith in
-      m.elements ∙ rw e

@@ -1,15 +1,20 @@
 -- Laws of the entries in the table's two arrays: one by one, with one more written, and with one closed up.
 -- Assumes nothing.
 use mathlib.Core.Path.{◌≡◌, refl, sym, ap, ap₂, ◌∙◌}
-use mathlib.Core.Bool.{Bool}
+use mathlib.Core.Bool.{Bool, true, false, ◌||◌}
 use mathlib.Core.List.{List, [], ◌∷◌, ◌++◌}
 use Prim.Native.Nat.{ℕ, zero, suc, ◌+◌, ◌-◌, ◌*◌, ◌≤◌, ◌<◌}
 use native.Mathlib.Nat.{add-zero}
+use native.Mathlib.Numerals.{add-one}
 use native.Mathlib.Omega.{arith}
+use lib.Dec.{eqb}
 use lib.ListN.{length, take, drop, get_or, set, length-drop}
-use lib.Seq.{paste, take_all, drop-drop, get_or-drop, get_or-set_same, get_or-set_other}
+use lib.Seq.{paste, drop-cons, take_all, drop-drop, get_or-drop, get_or-set_same, get_or-set_other}
+use Rattle.std.specs.List.{list_any}
+use Rattle.text.specs.Choice.{either}
 use Rattle.text.specs.Hash.{hash_bytes}
-use Rattle.state.specs.Stashes.{Stash, entry_hash, entry_at, entries, same, size_at, without}
+use Rattle.std.specs.Prelude.{Option, Some, None}
+use Rattle.state.specs.Stashes.{Stash, entry_hash, entry_at, entries, same, shift, find_in, is_held, held_twice, holds_empty, size_at, without}
 use Rattle.state.proofs.CopyLaws.{part_before, part_within, read-before, read-within}
 use Rattle.state.proofs.StashLaws.{without_at}
 
@@ -45,13 +50,80 @@ module _ (h z : List ℕ) where
       let e : k + suc j ≡ k + 1 + j = omega arith in
       rw e (size-entries (k + 1) n j (omega arith))
 
--- the bytes of entry k, taken as a part from its start to its end
-pub same_part : (h hash : List ℕ) (k : ℕ) {r b : Bool}
-    → r ≡ same (take (hash_bytes * k + hash_bytes - hash_bytes * k) (drop (hash_bytes * k) h)) hash → r ≡ b
-    → same (entry_hash h k) hash ≡ b
-same_part h hash k e f =
-    let n : hash_bytes * k + hash_bytes - hash_bytes * k ≡ hash_bytes = omega arith in
-    sym (rw n at e) ∙ f
+-- ---- looking on from entry j
+
+-- what is found k entries on
+abbrev pub later : ℕ → Option ℕ → Option ℕ
+later k (Some j) = Some (k + j)
+later k None = None
+
+later-shift : (k : ℕ) (f : Option ℕ) → later k (shift f) ≡ later (k + 1) f
+later-shift k (Some j) =
+    let e : k + (j + 1) ≡ k + 1 + j = omega arith in
+    rw e
+later-shift k None = refl
+
+module _ (h z hash : List ℕ) (j n : ℕ) where
+  pub find_here : j < n → same (entry_hash h j) hash ≡ true → later j (find_in (entries h z j (n - j)) hash) ≡ Some j
+  unfolding find_in
+  find_here l e = rw (entries_next h z j n l, e, add-zero)
+
+  pub find_on : j < n → same (entry_hash h j) hash ≡ false
+      → later j (find_in (entries h z j (n - j)) hash) ≡ later (j + 1) (find_in (entries h z (j + 1) (n - (j + 1))) hash)
+  unfolding find_in
+  find_on l e = rw (entries_next h z j n l, e) (later-shift j _)
+
+  pub find_end : n ≤ j → later j (find_in (entries h z j (n - j)) hash) ≡ None
+  unfolding find_in entries
+  find_end l =
+      let e : n - j ≡ 0 = omega arith in
+      rw e
+
+  pub again_here : j < n → same (entry_hash h j) hash ≡ true → is_held (entries h z j (n - j)) hash ≡ true
+  unfolding is_held
+  again_here l e = rw (entries_next h z j n l, e)
+
+  pub again_on : j < n → same (entry_hash h j) hash ≡ false
+      → is_held (entries h z j (n - j)) hash ≡ is_held (entries h z (j + 1) (n - (j + 1))) hash
+  unfolding is_held
+  again_on l e = rw (entries_next h z j n l, e)
+
+  pub again_end : n ≤ j → is_held (entries h z j (n - j)) hash ≡ false
+  unfolding is_held entries
+  again_end l =
+      let e : n - j ≡ 0 = omega arith in
+      rw e
+
+module _ (h z : List ℕ) (j n : ℕ) where
+  pub twice_here : j < n → is_held (entries h z (j + 1) (n - (j + 1))) (entry_hash h j) ≡ true → held_twice (entries h z j (n - j)) ≡ true
+  unfolding held_twice
+  twice_here l e = rw (entries_next h z j n l, e)
+
+  pub twice_on : j < n → is_held (entries h z (j + 1) (n - (j + 1))) (entry_hash h j) ≡ false
+      → held_twice (entries h z j (n - j)) ≡ held_twice (entries h z (j + 1) (n - (j + 1)))
+  unfolding held_twice
+  twice_on l e = rw (entries_next h z j n l, e)
+
+  pub twice_end : n ≤ j → held_twice (entries h z j (n - j)) ≡ false
+  unfolding held_twice entries
+  twice_end l =
+      let e : n - j ≡ 0 = omega arith in
+      rw e
+
+-- some stash has no blocks where one of the sizes is 0
+pub empty_entries : (h z : List ℕ) (k n : ℕ) → k + n ≤ length z
+    → list_any (λ y. eqb y 0) (take n (drop k z)) ≡ holds_empty (entries h z k n)
+unfolding holds_empty entries
+empty_entries h z k zero l = refl
+empty_entries h z k (suc n) l =
+    rw (drop-cons z k 0 (omega arith), ← add-one k) (one (eqb (get_or z k 0) 0) (empty_entries h z (k + 1) n (omega arith)))
+  where
+    one : (b : Bool) → list_any (λ y. eqb y 0) (take n (drop (k + 1) z)) ≡ holds_empty (entries h z (k + 1) n)
+        → (b || list_any (λ y. eqb y 0) (take n (drop (k + 1) z))) ≡ either b (holds_empty (entries h z (k + 1) n))
+    one true e = refl
+    one false e = e
+
+-- ---- one written, one closed up
 
 entry_eq : {h h' : List ℕ} {b b' : ℕ} → h ≡ h' → b ≡ b' → ◌≡◌ {A = Stash} (record { hash = h; blocks = b }) (record { hash = h'; blocks = b' })
 entry_eq p q = rw (p, q)

@@ -1,21 +1,19 @@
 -- Laws of lists of stashes: hashes that are the same, a hash among the stashes, no hash twice, none of no blocks, their blocks, and one taken out.
 -- Assumes nothing.
 use mathlib.Core.Path.{◌≡◌, refl, sym, ap, ap₂, ◌∙◌}
-use mathlib.Core.Bool.{Bool, true, false}
-use mathlib.Core.Logic.{⊎_elim}
+use mathlib.Core.Bool.{Bool, true, false, ◌&&◌}
 use mathlib.Core.List.{List, [], ◌∷◌, ◌++◌}
 use Prim.Native.Nat.{ℕ, zero, suc, ◌+◌, ◌≤◌, ◌<◌}
 use native.Mathlib.Numerals.{add-one}
 use native.Mathlib.Omega.{arith}
 use borrow.Author.Tests.{eqb-true, eqb-false, eq-eqb, ne_eqb}
 use lib.Dec.{eqb, eqb-zero-suc, eqb-suc-zero, eqb-suc-suc}
-use lib.ListN.{length, take, drop, get_or, take-append-drop, drop_of_length-le}
-use lib.Seq.{drop-cons}
+use lib.ListN.{length, take, drop, take-append-drop}
+use lib.Pointwise.{pointwise}
 use Rattle.text.specs.Choice.{pick, both, either}
-use Rattle.text.proofs.ChoiceLaws.{bool, both_true, either_false}
-use Rattle.state.specs.declared.stashes.Found.{Found}
-use Rattle.state.specs.declared.stashes.Found.TheVariants.{At, Nothing}
+use Rattle.text.proofs.ChoiceLaws.{both_true, either_false}
 use Rattle.state.specs.Stashes.{Stash, same, shift, find_in, is_held, held_twice, holds_empty, size_at, blocks_held, without}
+use Rattle.std.specs.Prelude.{Option, Some, None}
 
 -- ---- hashes that are the same
 
@@ -46,45 +44,43 @@ same_eq (x ∷ xs) (y ∷ ys) e =
     let b = both_true (eqb x y) (same xs ys) e in
     ap₂ (λ (n : ℕ) (l : List ℕ). n ∷ l) (eqb-true x y b.0) (same_eq xs ys b.1)
 
--- from byte i on, hashes are the same where byte i is and those behind it are
-pub same_next : (a b : List ℕ) (i : ℕ) → i < length a → i < length b
-    → same (drop i a) (drop i b) ≡ both (eqb (get_or a i 0) (get_or b i 0)) (same (drop (i + 1) a) (drop (i + 1) b))
+-- what `==` says of two slices of bytes
+pub same_pointwise : (a b : List ℕ) → pointwise eqb a b ≡ same a b
 unfolding same
-same_next a b i h l = rw (drop-cons a i 0 h, drop-cons b i 0 l, add-one)
-
-pub same_end : (a b : List ℕ) (i : ℕ) → length a ≤ i → length b ≤ i → same (drop i a) (drop i b) ≡ true
-unfolding same
-same_end a b i h l = rw (drop_of_length-le a {i = i} h, drop_of_length-le b {i = i} l)
-
--- hashes of other lengths are not the same
-pub other_length : (a b : List ℕ) → (length a ≡ length b → ⊥) → same a b ≡ false
-other_length a b h = ⊎_elim (λ (e : same a b ≡ true). absurd (h (ap length (same_eq a b e)))) (λ (e : same a b ≡ false). e) (bool (same a b))
+same_pointwise [] [] = refl
+same_pointwise [] (y ∷ ys) = refl
+same_pointwise (x ∷ xs) [] = refl
+same_pointwise (x ∷ xs) (y ∷ ys) = go (eqb x y) (same_pointwise xs ys)
+  where
+    go : (b : Bool) → pointwise eqb xs ys ≡ same xs ys → (b && pointwise eqb xs ys) ≡ both b (same xs ys)
+    go true e = e
+    go false e = refl
 
 -- ---- a hash among the stashes
 
-pub find_held : (xs : List Stash) (hash : List ℕ) {j : ℕ} → find_in xs hash ≡ At j → (j < length xs) × (is_held xs hash ≡ true)
+pub find_held : (xs : List Stash) (hash : List ℕ) {j : ℕ} → find_in xs hash ≡ Some j → (j < length xs) × (is_held xs hash ≡ true)
 unfolding find_in is_held
 find_held [] hash e = absurd (let z : ◌≡◌ {A = ℕ} 0 1 = cc in omega arith)
 find_held (x ∷ xs) hash {j} e = go (same x.hash hash) (find_in xs hash) (λ i. find_held xs hash {j = i}) e
   where
-    go : (b : Bool) (f : Found) → ((i : ℕ) → f ≡ At i → (i < length xs) × (is_held xs hash ≡ true))
-        → pick b (At 0) (shift f) ≡ At j → (j < suc (length xs)) × (either b (is_held xs hash) ≡ true)
+    go : (b : Bool) (f : Option ℕ) → ((i : ℕ) → f ≡ Some i → (i < length xs) × (is_held xs hash ≡ true))
+        → pick b (Some 0) (shift f) ≡ Some j → (j < suc (length xs)) × (either b (is_held xs hash) ≡ true)
     go true f h p = (let q : j ≡ 0 = cc in omega arith, refl)
-    go false (At i) h p = (let q : j ≡ i + 1 = cc in omega (arith, (h i refl).0), (h i refl).1)
-    go false Nothing h p = absurd (let z : ◌≡◌ {A = ℕ} 0 1 = cc in omega arith)
+    go false (Some i) h p = (let q : j ≡ i + 1 = cc in omega (arith, (h i refl).0), (h i refl).1)
+    go false None h p = absurd (let z : ◌≡◌ {A = ℕ} 0 1 = cc in omega arith)
 
-pub find_nothing : (xs : List Stash) (hash : List ℕ) → find_in xs hash ≡ Nothing → is_held xs hash ≡ false
+pub find_nothing : (xs : List Stash) (hash : List ℕ) → find_in xs hash ≡ None → is_held xs hash ≡ false
 unfolding find_in is_held
 find_nothing [] hash e = refl
 find_nothing (x ∷ xs) hash e = go (same x.hash hash) (find_in xs hash) (find_nothing xs hash) e
   where
-    go : (b : Bool) (f : Found) → (f ≡ Nothing → is_held xs hash ≡ false) → pick b (At 0) (shift f) ≡ Nothing
+    go : (b : Bool) (f : Option ℕ) → (f ≡ None → is_held xs hash ≡ false) → pick b (Some 0) (shift f) ≡ None
         → either b (is_held xs hash) ≡ false
     go true f h p = absurd (let z : ◌≡◌ {A = ℕ} 0 1 = cc in omega arith)
-    go false (At i) h p = absurd (let z : ◌≡◌ {A = ℕ} 0 1 = cc in omega arith)
-    go false Nothing h p = h refl
+    go false (Some i) h p = absurd (let z : ◌≡◌ {A = ℕ} 0 1 = cc in omega arith)
+    go false None h p = h refl
 
-pub not_held-nothing : (xs : List Stash) (hash : List ℕ) → is_held xs hash ≡ false → find_in xs hash ≡ Nothing
+pub not_held-nothing : (xs : List Stash) (hash : List ℕ) → is_held xs hash ≡ false → find_in xs hash ≡ None
 unfolding find_in is_held
 not_held-nothing [] hash e = refl
 not_held-nothing (x ∷ xs) hash e =
@@ -155,11 +151,11 @@ holds_empty-without (x ∷ xs) (suc j) e =
 
 -- ---- blocks
 
-pub size-past : (xs : List Stash) (j : ℕ) → length xs ≤ j → size_at xs j ≡ 0
+pub size_past : (xs : List Stash) (j : ℕ) → length xs ≤ j → size_at xs j ≡ 0
 unfolding size_at
-size-past [] j h = refl
-size-past (x ∷ xs) zero h = absurd (omega arith)
-size-past (x ∷ xs) (suc j) h = size-past xs j (omega arith)
+size_past [] j h = refl
+size_past (x ∷ xs) zero h = absurd (omega arith)
+size_past (x ∷ xs) (suc j) h = size_past xs j (omega arith)
 
 pub blocks_held-append : (xs ys : List Stash) → blocks_held (xs ++ ys) ≡ blocks_held xs + blocks_held ys
 unfolding blocks_held

@@ -5,35 +5,57 @@ use mathlib.Core.Bool.{true, false}
 use mathlib.Core.Logic.{⊎_elim}
 use mathlib.Core.List.{List, [], ◌∷◌, ◌++◌}
 use Prim.Native.Nat.{ℕ, ◌+◌, ◌-◌, ◌*◌, ◌≤◌, ◌<◌, min}
+use native.Mathlib.Nat.{zero-add}
 use native.Mathlib.Omega.{arith}
 use borrow.Author.Tests.{lt-ltb, le-ltb, le-leb, lt-leb, ltb-true, ltb-false}
-use lib.Dec.{ltb, leb}
+use lib.Dec.{eqb, ltb, leb}
+use Rattle.std.specs.List.{list_any}
 use lib.ListN.{length, take, drop, get_or, set, length-drop, length-set, length-replicate}
 use lib.Seq.{paste, length-paste, take_all}
+use Rattle.std.specs.Prelude.{Option, Some, None}
+use Rattle.std.proofs.lemmas.Slice.{put_mid-paste}
 use Rattle.text.specs.Choice.{both}
 use Rattle.text.specs.Hash.{hash_bytes}
 use Rattle.text.proofs.ChoiceLaws.{picks, both_true, bool}
 use Rattle.state.specs.Limits.{most_stashes, table_bytes}
-use Rattle.state.specs.Stashes.{Whole, Table, table_at, empty_table, entries, held_in, size_at, blocks_held, without, holding, releasing}
+use Rattle.state.specs.Stashes.{Whole, Table, table_at, empty_table, entries, held_in, find_in, held_twice, holds_empty, size_at, blocks_held, without, holding, releasing}
 use Rattle.state.specs.Sums.{bound, bounded}
-use Rattle.state.proofs.EntryLaws.{length-entries, size-entries, entries-more, entries-less}
-use Rattle.state.proofs.StashLaws.{without-past}
+use Rattle.state.proofs.EntryLaws.{find_here, find_on, find_end, again_here, again_on, again_end, twice_here, twice_on, twice_end}
+use Rattle.state.proofs.EntryLaws.{later, empty_entries, length-entries, size-entries, entries-more, entries-less}
+use Rattle.state.proofs.StashLaws.{size_past, blocks_held-next, without-past}
 
 -- ---- the stashes held
 
-pub held-entries : (t : Table) (n : ℕ) → n ≡ min t.count most_stashes → held_in t ≡ entries t.hashes t.sizes 0 (n - 0)
+-- looked on from the first entry
+pub find_first : (t : Table) (hash : List ℕ)
+    → find_in (held_in t) hash ≡ later 0 (find_in (entries t.hashes t.sizes 0 (min t.count most_stashes - 0)) hash)
 unfolding held_in
-held-entries t n e =
-    let f : n - 0 ≡ min t.count most_stashes = omega arith in
-    rw f
+find_first t hash =
+    let e : min t.count most_stashes - 0 ≡ min t.count most_stashes = omega arith in
+    rw e (go (find_in (entries t.hashes t.sizes 0 (min t.count most_stashes)) hash))
+  where
+    go : (f : Option ℕ) → f ≡ later 0 f
+    go (Some j) = rw zero-add
+    go None = refl
+
+pub twice_first : (t : Table) → held_twice (held_in t) ≡ held_twice (entries t.hashes t.sizes 0 (min t.count most_stashes - 0))
+unfolding held_in
+twice_first t =
+    let e : min t.count most_stashes - 0 ≡ min t.count most_stashes = omega arith in
+    rw e
+
+pub empty_sizes : (t : Table) (n : ℕ) → n ≡ min t.count most_stashes → n ≤ length t.sizes
+    → list_any (λ y. eqb y 0) (take n t.sizes) ≡ holds_empty (held_in t)
+unfolding held_in
+empty_sizes t n e l = rw e (empty_entries t.hashes t.sizes 0 (min t.count most_stashes) (omega arith))
 
 pub length-held : (t : Table) → length (held_in t) ≡ min t.count most_stashes
 unfolding held_in
 length-held t = length-entries _ _ _ _
 
-pub size-held : (t : Table) (j : ℕ) → j < min t.count most_stashes → size_at (held_in t) j ≡ get_or t.sizes j 0
+pub size_held : (t : Table) (j : ℕ) → j < min t.count most_stashes → size_at (held_in t) j ≡ get_or t.sizes j 0
 unfolding held_in
-size-held t j l =
+size_held t j l =
     let e : 0 + j ≡ j = omega arith in
     size-entries t.hashes t.sizes 0 _ j l ∙ rw e
 
@@ -70,12 +92,12 @@ module _ (t : Table) (hash : List ℕ) (blocks : ℕ) where
   unfolding holding
   holding_full h = rw (le-ltb t.count most_stashes h)
 
-  pub holding-room : t.count < most_stashes → holding t hash blocks ≡ one_more t hash blocks
+  pub holding_room : t.count < most_stashes → holding t hash blocks ≡ one_more t hash blocks
   unfolding holding
-  holding-room h = rw (lt-ltb t.count most_stashes h)
+  holding_room h = rw (lt-ltb t.count most_stashes h)
 
   pub hold_count : t.count < most_stashes → (holding t hash blocks).count ≡ t.count + 1
-  hold_count h = rw (holding-room h)
+  hold_count h = rw (holding_room h)
 
   pub hold_whole : Whole t → length hash ≡ hash_bytes → Whole (holding t hash blocks)
   unfolding holding
@@ -95,7 +117,7 @@ unfolding held_in
 hold_held t hash blocks w l f =
     let n : min (t.count + 1) most_stashes ≡ t.count + 1 = omega arith in
     let m : min t.count most_stashes ≡ t.count = omega arith in
-    rw (holding-room t hash blocks l, n, m) (entries-more t.hashes t.sizes hash t.count blocks (omega arith) (omega arith) f)
+    rw (holding_room t hash blocks l, n, m) (entries-more t.hashes t.sizes hash t.count blocks (omega arith) (omega arith) f)
 
 -- ---- one stash less
 
@@ -108,20 +130,20 @@ one_less t j =
     (t.count - 1)
 
 module _ (t : Table) (j : ℕ) where
-  pub releasing-none : t.count ≤ j → releasing t j ≡ t
+  pub releasing_none : t.count ≤ j → releasing t j ≡ t
   unfolding releasing
-  releasing-none h = rw (le-ltb j t.count h)
+  releasing_none h = rw (le-ltb j t.count h)
 
-  pub releasing-past : j < t.count → most_stashes < t.count → releasing t j ≡ t
+  pub releasing_past : j < t.count → most_stashes < t.count → releasing t j ≡ t
   unfolding releasing
-  releasing-past h l = rw (lt-ltb j t.count h, lt-leb t.count most_stashes l)
+  releasing_past h l = rw (lt-ltb j t.count h, lt-leb t.count most_stashes l)
 
-  pub releasing-one : j < t.count → t.count ≤ most_stashes → releasing t j ≡ one_less t j
+  pub releasing_one : j < t.count → t.count ≤ most_stashes → releasing t j ≡ one_less t j
   unfolding releasing
-  releasing-one h l = rw (lt-ltb j t.count h, le-leb t.count most_stashes l)
+  releasing_one h l = rw (lt-ltb j t.count h, le-leb t.count most_stashes l)
 
   pub release_count : j < t.count → t.count ≤ most_stashes → (releasing t j).count ≡ t.count - 1
-  release_count h l = rw (releasing-one h l)
+  release_count h l = rw (releasing_one h l)
 
   pub release_whole : Whole t → Whole (releasing t j)
   unfolding releasing
@@ -150,7 +172,7 @@ module _ (t : Table) (j : ℕ) (w : Whole t) where
   held-less l =
       let n : min (t.count - 1) most_stashes ≡ j + (t.count - (j + 1)) = omega arith in
       let m : min t.count most_stashes ≡ j + 1 + (t.count - (j + 1)) = omega arith in
-      rw (releasing-one t j l w.count, n, m) (entries-less t.hashes t.sizes j (t.count - (j + 1)) (omega arith) (omega arith))
+      rw (releasing_one t j l w.count, n, m) (entries-less t.hashes t.sizes j (t.count - (j + 1)) (omega arith) (omega arith))
 
   pub release_held : held_in (releasing t j) ≡ without (held_in t) j
   release_held =
@@ -158,5 +180,11 @@ module _ (t : Table) (j : ℕ) (w : Whole t) where
       (λ (e : ltb j t.count ≡ true). held-less (ltb-true j t.count e))
       (λ (e : ltb j t.count ≡ false).
       let l = ltb-false j t.count e in
-      ap held_in (releasing-none t j l) ∙ sym (without-past (held_in t) j (omega (arith, length-held t))))
+      ap held_in (releasing_none t j l) ∙ sym (without-past (held_in t) j (omega (arith, length-held t))))
       (bool (ltb j t.count))
+
+-- ---- what the functions on a table stand on
+
+pub ruleset looking_steps = (find_first, find_here, find_on, find_end, again_here, again_on, again_end, twice_first, twice_here, twice_on, twice_end)
+
+pub ruleset table_steps = (length-held, size_held, size_past, blocks_held-next, holding_full, holding_room, releasing_none, releasing_past, releasing_one, put_mid-paste)

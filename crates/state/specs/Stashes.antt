@@ -1,30 +1,24 @@
 -- Document 01, "The stash area" and "Calls", and document 02, R-9: the stashes that are held, oldest first, each with its hash and its number of blocks.
 -- Assumes nothing: these are definitions.
-use Rattle.std.specs.Prelude.{ℕ, zero, suc, ◌+◌, ◌-◌, ◌*◌, ◌≤◌, min, ◌≡◌, Bool, true, false, List, [], ◌∷◌, length, take, drop, get_or, set, replicate, eqb, ltb, leb}
+use Rattle.std.specs.Prelude.{ℕ, zero, suc, ◌+◌, ◌-◌, ◌*◌, ◌≤◌, min, ◌≡◌, Bool, true, false, List, [], ◌∷◌, length, take, drop, get_or, set, replicate, eqb, ltb, leb, Option, Some, None}
 use Rattle.std.proofs.Math.Seq.{paste}
 use Rattle.text.specs.Choice.{pick, both, either}
 use Rattle.text.specs.Hash.{hash_bytes}
 use Rattle.state.specs.Limits.{most_stashes, table_bytes}
-use Rattle.state.specs.declared.stashes.Found.{Found}
-use Rattle.state.specs.declared.stashes.Found.TheVariants.{At, Nothing}
 use Rattle.state.specs.declared.State.{State}
+pub use Rattle.state.specs.declared.stashes.Table.{Table}
 
 pub record Stash : Type 0 where
   pub hash : List ℕ
   pub blocks : ℕ
 
--- the table of stashes as a state keeps it: a flat array of hash bytes, one of sizes, and how many entries are in use
-pub record Table : Type 0 where
-  pub hashes : List ℕ
-  pub sizes : List ℕ
-  pub count : ℕ
-
+-- the table of stashes as a state keeps it, `Table`: a flat array of hash bytes, one of sizes, and how many entries are in use
 abbrev pub table_at : List ℕ → List ℕ → ℕ → Table
 table_at hashes sizes count = record { hashes = hashes; sizes = sizes; count = count }
 
 -- a state's own
 abbrev pub table_of : State → Table
-table_of s = table_at s.hashes s.sizes s.count
+table_of s = s.table
 
 -- the table that a run starts with
 abbrev pub empty_table : Table
@@ -65,14 +59,14 @@ same (x ∷ xs) [] = false
 same (x ∷ xs) (y ∷ ys) = both (eqb x y) (same xs ys)
 
 -- found one entry further on
-abbrev pub shift : Found → Found
-shift (At j) = At (j + 1)
-shift Nothing = Nothing
+abbrev pub shift : Option ℕ → Option ℕ
+shift (Some j) = Some (j + 1)
+shift None = None
 
 -- where the stash of a hash is among those held
-unfoldable pub find_in : List Stash → List ℕ → Found
-find_in [] hash = Nothing
-find_in (x ∷ xs) hash = pick (same x.hash hash) (At 0) (shift (find_in xs hash))
+unfoldable pub find_in : List Stash → List ℕ → Option ℕ
+find_in [] hash = None
+find_in (x ∷ xs) hash = pick (same x.hash hash) (Some 0) (shift (find_in xs hash))
 
 -- a hash is held
 unfoldable pub is_held : List Stash → List ℕ → Bool

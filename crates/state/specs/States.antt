@@ -1,11 +1,10 @@
 -- Document 01, "Calls" and "Refusal numbers", and document 02, R-9: the state that is kept between calls, and what of it a step sets.
 -- Assumes nothing: these are definitions.
-use Rattle.std.specs.Prelude.{ℕ, Bool, List, eqb}
+use Rattle.std.specs.Prelude.{ℕ, Bool, eqb}
 use Rattle.text.specs.Choice.{no}
 use Rattle.state.specs.Refusals.{none}
-use Rattle.state.specs.Stashes.{Table, table_at, table_of, empty_table}
+use Rattle.state.specs.Stashes.{Table, table_of, empty_table}
 use Rattle.state.specs.declared.Lengths.{Lengths}
-use Rattle.state.specs.declared.Progress.{Progress}
 use Rattle.state.specs.declared.Refusal.{Refusal}
 use Rattle.state.specs.declared.State.{State}
 
@@ -38,9 +37,7 @@ line_start line at total = record { line = line; at = at; into = 0; total = tota
 abbrev pub state_of : Table → Cursor → Refusal → Lengths → State
 state_of t c refused lengths =
     record {
-      hashes = t.hashes;
-      sizes = t.sizes;
-      count = t.count;
+      table = t;
       line = c.line;
       at = c.at;
       into = c.into;
@@ -55,13 +52,6 @@ state_of t c refused lengths =
 abbrev pub cursor_of : State → Cursor
 cursor_of s =
     record { line = s.line; at = s.at; into = s.into; total = s.total; ready = s.ready; stretches = s.stretches }
-
--- the tables of hashes and of sizes, and what a state has besides them
-abbrev pub state_with : List ℕ → List ℕ → Progress → State
-state_with hashes sizes p =
-    state_of (table_at hashes sizes p.count)
-    (record { line = p.line; at = p.at; into = p.into; total = p.total; ready = p.ready; stretches = p.stretches })
-    p.refusal p.lengths
 
 -- at the start of a line, with no stash and no byte taken
 abbrev pub state_at : ℕ → ℕ → Refusal → Lengths → State

@@ -1,7 +1,7 @@
 // What a run keeps between calls.
 #![tactic(auto)]
 
-use crate::limits::{MOST_STASHES, TABLE_BYTES};
+use crate::stashes::Table;
 
 pub mod limits;
 pub mod refusals;
@@ -9,8 +9,8 @@ pub mod stashes;
 pub mod stretches;
 pub mod sums;
 
-// A refusal's number, line, and the byte of the text at which the line is wrong, 0 where none is reported; number 0 is no refusal.
-#[repr(C)]
+// A refusal's number, line, and the byte of the text at which the line is wrong, 0 where none is reported; number 0 is no refusal. A state holds
+// whatever numbers its saved form has, so this is a number and no reason.
 #[derive(Clone, Copy)]
 pub struct Refusal {
     pub number: usize,
@@ -19,8 +19,7 @@ pub struct Refusal {
 }
 
 // The lengths in bytes of the list, the image, the three areas and the patch data.
-#[repr(C)]
-#[derive(Clone, Copy)]
+#[derive(Clone, Copy, PartialEq, Eq)]
 pub struct Lengths {
     pub list: usize,
     pub image: usize,
@@ -30,31 +29,12 @@ pub struct Lengths {
     pub patch: usize,
 }
 
-// What a state has besides the tables of its stashes.
-#[repr(C)]
-#[derive(Clone, Copy)]
-pub struct Progress {
-    pub count: usize,
-    pub line: usize,
-    pub at: usize,
-    pub into: usize,
-    pub total: usize,
-    pub ready: usize,
-    pub stretches: usize,
-    pub refusal: Refusal,
-    pub lengths: Lengths,
-}
-
-// The stashes held, oldest first, a hash and a number of blocks each, and how many they are. The current line's number and where it
-// starts in the text. The bytes into a `new`. The bytes taken since the opening, modulo 2^64. Whether the work area, for a `bsdiff` the result
-// area, is ready to be written: 0 says no, every other number yes. The stretches that a `free` has moved. The refusal, if any. The lengths at
-// opening.
-#[repr(C)]
+// The table of the stashes held. The current line's number and where it starts in the text. The bytes into a `new`. The bytes taken since the
+// opening, modulo 2^64. Whether the work area, for a `bsdiff` the result area, is ready to be written: 0 says no, every other number yes, since a
+// saved form may have any. The stretches that a `free` has moved. The refusal, if any. The lengths at opening.
 #[derive(Clone, Copy)]
 pub struct State {
-    pub hashes: [u8; TABLE_BYTES],
-    pub sizes: [usize; MOST_STASHES],
-    pub count: usize,
+    pub table: Table,
     pub line: usize,
     pub at: usize,
     pub into: usize,

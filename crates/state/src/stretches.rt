@@ -2,32 +2,18 @@
 ghost use Rattle.std.specs.Prelude.{◌≡◌};
 ghost use Rattle.state.specs.Stretches.{is_stretch, stretch_blocks};
 
-// Stretch k is there to be moved. Every k gets an answer: the product of k and the gap might not fit in a number.
+// Stretch k is there to be moved. Every k gets an answer: where the product of k and the gap does not fit in a number, all is moved before it.
+#[tactic(auto, unfolding(crate::specs::Stretches::is_stretch))]
 pub fn is_stretch(gap: usize, younger: usize, k: usize) -> bool
     ensures { result ≡ is_stretch gap younger k }
 {
-    if gap == 0 {
-        return false;
-    }
-    if younger == 0 {
-        return false;
-    }
-    k <= (younger - 1) / gap
+    gap > 0 && k.checked_mul(gap).is_some_and(|moved| moved < younger)
 }
 
 // Its blocks.
+#[tactic(auto, unfolding(crate::specs::Stretches::stretch_blocks))]
 pub fn stretch_blocks(gap: usize, younger: usize, k: usize) -> usize
     ensures { result ≡ stretch_blocks gap younger k }
 {
-    if gap == 0 {
-        return 0;
-    }
-    if younger / gap < k {
-        return 0;
-    }
-    let left = younger - k * gap;
-    if left < gap {
-        return left;
-    }
-    gap
+    gap.min(younger.saturating_sub(k.saturating_mul(gap)))
 }

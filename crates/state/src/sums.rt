@@ -8,11 +8,5 @@ const BOUND: usize = 4294967296;
 pub fn bounded_sum(a: usize, b: usize) -> usize
     ensures { result ≡ bounded (a + b) }
 {
-    if BOUND <= a {
-        return BOUND;
-    }
-    if BOUND - a <= b {
-        return BOUND;
-    }
-    a + b
+    a.saturating_add(b).min(BOUND)
 }

@@ -13,10 +13,10 @@ use Rattle.text.specs.Choice.{pick, both}
 use Rattle.text.specs.Number.{largest, digits_most, is_digit, then, is_count, meets, reaches, can_meet, end_of, digits, number_from, number_for, number_at}
 use Rattle.text.specs.declared.number.Need.{Need}
 use Rattle.text.specs.declared.number.Need.TheVariants as need
-use Rattle.text.specs.declared.number.Number.{Number}
-use Rattle.text.specs.declared.number.Number.TheVariants.{Good, Bad}
 use Rattle.text.proofs.ChoiceLaws.{both_true, both_is, either_is}
 use Rattle.text.proofs.NumberLaws.{digit_high}
+use Rattle.std.specs.Prelude.{Ok, Err}
+use Rattle.text.specs.Read.{Read}
 
 -- ---- how a number is written
 
@@ -73,24 +73,24 @@ need-holds (need.AtLeast low) x l e = least-holds low x l e
 -- ---- a number that was read as any number is
 
 -- where it meets the need, it is written so after the digits of v, and is what is read for the need
-abbrev MetAfter : Need → ℕ → List ℕ → Number → Number → Type 0
-MetAfter n v s (Good w next) exact = meets n w ≡ true → (t : List ℕ) × Written v w s t × (exact ≡ Good w next)
-MetAfter n v s (Bad p) exact = Unit {0}
+abbrev MetAfter : Need → ℕ → List ℕ → Read ℕ → Read ℕ → Type 0
+MetAfter n v s (Ok (w, next)) exact = meets n w ≡ true → (t : List ℕ) × Written v w s t × (exact ≡ Ok (w, next))
+MetAfter n v s (Err p) exact = Unit {0}
 
-abbrev Met : Need → Number → Number → Type 0
-Met n (Good w next) exact = meets n w ≡ true → exact ≡ Good w next
-Met n (Bad p) exact = Unit {0}
+abbrev Met : Need → Read ℕ → Read ℕ → Type 0
+Met n (Ok (w, next)) exact = meets n w ≡ true → exact ≡ Ok (w, next)
+Met n (Err p) exact = Unit {0}
 
 module _ (n : Need) where
-  end-met : (v i : ℕ) (s : List ℕ) → MetAfter n v s (Good v i) (end_of n v i)
+  end-met : (v i : ℕ) (s : List ℕ) → MetAfter n v s (Ok (v, i)) (end_of n v i)
   unfolding end_of
   end-met v i s e = (s, last, rw e)
 
-  one_more : (v b i : ℕ) (s : List ℕ) (any exact : Number) → is_digit b ≡ true → 0 < v → then v b ≤ largest → MetAfter n (then v b) s any exact →
-      MetAfter n v (b ∷ s) any (pick (can_meet n (then v b)) exact (Bad i))
-  one_more v b i s (Good w next) exact d p m h =
+  one_more : (v b i : ℕ) (s : List ℕ) (any exact : Read ℕ) → is_digit b ≡ true → 0 < v → then v b ≤ largest → MetAfter n (then v b) s any exact →
+      MetAfter n v (b ∷ s) any (pick (can_meet n (then v b)) exact (Err i))
+  one_more v b i s (Ok (w, next)) exact d p m h =
       λ e. let k = h e in (k.0, more d p m k.1, rw (need-holds n k.1 m e) k.2)
-  one_more v b i s (Bad q) exact d p m h = tt
+  one_more v b i s (Err q) exact d p m h = tt
 
   digits-met : (v i : ℕ) (bs : List ℕ) → MetAfter n v bs (digits need.Any v i bs) (digits n v i bs)
   unfolding digits end_of meets can_meet
@@ -100,8 +100,8 @@ module _ (n : Need) where
     where
       go : (p q r : Bool) → is_digit b ≡ p → ltb 0 v ≡ q → leb (then v b) largest ≡ r →
           MetAfter n (then v b) bs (digits need.Any (then v b) (suc i) bs) (digits n (then v b) (suc i) bs) →
-          MetAfter n v (b ∷ bs) (pick p (pick (both q (both r true)) (digits need.Any (then v b) (suc i) bs) (Bad i)) (Good v i))
-          (pick p (pick (both q (both r (can_meet n (then v b)))) (digits n (then v b) (suc i) bs) (Bad i)) (end_of n v i))
+          MetAfter n v (b ∷ bs) (pick p (pick (both q (both r true)) (digits need.Any (then v b) (suc i) bs) (Err i)) (Ok (v, i)))
+          (pick p (pick (both q (both r (can_meet n (then v b)))) (digits n (then v b) (suc i) bs) (Err i)) (end_of n v i))
       go true true true d e f h =
           one_more v b i bs (digits need.Any (then v b) (suc i) bs) (digits n (then v b) (suc i) bs) d (ltb-true 0 v e)
           (leb-true (then v b) largest f) h
@@ -114,15 +114,15 @@ module _ (n : Need) where
   number_from-met i [] = tt
   number_from-met i (b ∷ bs) = go (is_digit b) refl
     where
-      first : (any exact : Number) → is_digit b ≡ true → MetAfter n (b - 48) bs any exact → Met n any (pick (can_meet n (b - 48)) exact (Bad i))
-      first (Good w next) exact d h = λ e. let k = h e in rw (need-holds n k.1 (omega (arith, digit-most b d)) e) k.2
-      first (Bad q) exact d h = tt
+      first : (any exact : Read ℕ) → is_digit b ≡ true → MetAfter n (b - 48) bs any exact → Met n any (pick (can_meet n (b - 48)) exact (Err i))
+      first (Ok (w, next)) exact d h = λ e. let k = h e in rw (need-holds n k.1 (omega (arith, digit-most b d)) e) k.2
+      first (Err q) exact d h = tt
 
       go : (p : Bool) → is_digit b ≡ p →
-          Met n (pick (both p true) (digits need.Any (b - 48) (suc i) bs) (Bad i)) (pick (both p (can_meet n (b - 48))) (digits n (b - 48) (suc i) bs) (Bad i))
+          Met n (pick (both p true) (digits need.Any (b - 48) (suc i) bs) (Err i)) (pick (both p (can_meet n (b - 48))) (digits n (b - 48) (suc i) bs) (Err i))
       go true d = first (digits need.Any (b - 48) (suc i) bs) (digits n (b - 48) (suc i) bs) d (digits-met (b - 48) (suc i) bs)
       go false d = tt
 
-  pub number-met : (s : List ℕ) (at : ℕ) {w next : ℕ} → number_at s at ≡ Good w next → meets n w ≡ true → number_for n s at ≡ Good w next
+  pub number-met : (s : List ℕ) (at : ℕ) {w next : ℕ} → number_at s at ≡ Ok (w, next) → meets n w ≡ true → number_for n s at ≡ Ok (w, next)
   unfolding number_for
-  number-met s at {w} {next} e = subst (λ (any : Number). Met n any (number_from n at (drop at s))) e (number_from-met at (drop at s))
+  number-met s at {w} {next} e = subst (λ (any : Read ℕ). Met n any (number_from n at (drop at s))) e (number_from-met at (drop at s))

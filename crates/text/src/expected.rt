@@ -3,20 +3,13 @@ ghost use Rattle.std.specs.Prelude.{◌≡◌};
 ghost use Rattle.text.specs.Expected.{expected_at};
 
 // The position past a character, or the position where it is missing.
-#[derive(Clone, Copy)]
-pub enum Expected {
-    Past(usize),
-    Bad(usize),
-}
-
-pub fn read_expected(s: &[u8], at: usize, mark: u8) -> Expected
+#[tactic(auto, unfolding(crate::specs::Expected::expected_at))]
+pub fn read_expected(s: &[u8], at: usize, mark: u8) -> Result<usize, usize>
     ensures { result ≡ expected_at s.now at mark }
 {
-    if s.len() <= at {
-        return Expected::Bad(at);
+    if at < s.len() && s[at] == mark {
+        Ok(at + 1)
+    } else {
+        Err(at)
     }
-    if s[at] != mark {
-        return Expected::Bad(at);
-    }
-    Expected::Past(at + 1)
 }

@@ -6,23 +6,8 @@ ghost use Rattle.text.specs.Word.{is_first_word};
 pub fn first_word_is(line: &[u8], word: &[u8]) -> bool
     ensures { result ≡ is_first_word word.now line.now }
 {
-    let n = word.len();
-    if line.len() < n {
+    let Some(rest) = line.strip_prefix(word) else {
         return false;
-    }
-    let mut k = 0;
-    while k < n {
-        if line[k] != word[k] {
-            return false;
-        }
-        k += 1;
-    }
-    if line.len() == n {
-        return true;
-    }
-    let b = line[n];
-    if b == b' ' {
-        return true;
-    }
-    b == b'\n'
+    };
+    matches!(rest, [] | [b' ' | b'\n', ..])
 }

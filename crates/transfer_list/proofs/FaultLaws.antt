@@ -12,13 +12,9 @@ use lib.Dec.{leb, ltb, eqb}
 use borrow.Author.Tests.{eq-eqb, eqb-true, leb-false, ltb-true, ltb-false}
 use Rattle.text.specs.Choice.{pick, no}
 use Rattle.text.specs.Rows.{first_of}
-use Rattle.text.specs.Expected.{expected_at, on_expected, lf}
+use Rattle.text.specs.Expected.{expected_at, lf}
 use Rattle.text.specs.Line.{line_of, line_at, lfs_in}
-use Rattle.text.specs.Number.{number_at, on_number}
-use Rattle.text.specs.declared.expected.Expected.{Expected}
-use Rattle.text.specs.declared.expected.Expected.TheVariants as expected
-use Rattle.text.specs.declared.number.Number.{Number}
-use Rattle.text.specs.declared.number.Number.TheVariants as number
+use Rattle.text.specs.Number.{number_at}
 use Rattle.text.proofs.ChoiceLaws.{picks}
 use Rattle.text.proofs.ExpectedLaws.{expected-next}
 use Rattle.text.proofs.NumberLaws.{number-next, number-no_lf}
@@ -47,9 +43,12 @@ use Rattle.transfer_list.specs.Header.{header_line_at, header_of, version3, firs
 use Rattle.transfer_list.specs.Opening.{terms_of, total_refusal, line_refusal, lines_refusal, commands_refusal, open_refusal, open_state, accepted_state, refused_state}
 use Rattle.transfer_list.specs.Faults.{start_after, line_start, FaultAt, GoodBefore, Pinpoints, Reports}
 use Rattle.transfer_list.specs.declared.header.Header.{Header}
-use Rattle.transfer_list.specs.declared.header.HeaderRead.{HeaderRead}
-use Rattle.transfer_list.specs.declared.header.HeaderRead.TheVariants as header
 use Rattle.transfer_list.proofs.HeaderLaws.{header-line, line-then, same-header}
+use Rattle.std.specs.Prelude.{Result, Ok, Err}
+use Rattle.text.specs.Read.{Read, on_read, on_result}
+use Rattle.text.proofs.ReadLaws.{read-same}
+use Rattle.transfer_list.specs.declared.header.BadHeader.{BadHeader}
+use Rattle.transfer_list.specs.Header.{fault_at}
 
 -- ---- refusals that report no byte
 
@@ -89,13 +88,13 @@ unrefused-good at l terms held hash (command.Bad p) e = absurd (omega (arith, e)
 
 module _ (s : List ℕ) where
   -- past a header line the next one starts
-  header-next : (at : ℕ) {v next : ℕ} → header_line_at s at ≡ number.Good v next → next ≡ at + length (line_at s at)
+  header-next : (at : ℕ) {v next : ℕ} → header_line_at s at ≡ Ok (v, next) → next ≡ at + length (line_at s at)
   unfolding header_line_at line_at
   header-next at {v} {next} = go (number_at s at) refl
     where
-      ended : (w i : ℕ) → number_at s at ≡ number.Good w i → (m : Expected) → expected_at s i lf ≡ m →
-          on_expected m (λ next. number.Good w next) number.Bad ≡ number.Good v next → next ≡ at + length (line_of (drop at s))
-      ended w i e (expected.Past j) f h =
+      ended : (w i : ℕ) → number_at s at ≡ Ok (w, i) → (m : Result ℕ ℕ) → expected_at s i lf ≡ m →
+          ◌≡◌ {A = Read ℕ} (on_result m (λ next. Ok (w, next)) Err) (Ok (v, next)) → next ≡ at + length (line_of (drop at s))
+      ended w i e (Ok j) f h =
           let x = number-next s at e in
           let y = expected-next s i lf f in
           let q : at + (i - at) ≡ i = omega arith in
@@ -103,15 +102,15 @@ module _ (s : List ℕ) where
           line-length (drop at s) (i - at) (omega (arith, length-drop at s)) (get_or-drop at s (i - at) 0 ∙ ap (λ (j : ℕ). get_or s j 0) q ∙ y.2)
           (number-no_lf s at e)
           in
-          let z : j ≡ next = cc in
+          let z : j ≡ next = (read-same h).1 in
           omega arith
-      ended w i e (expected.Bad p) f h = absurd (let z : ◌≡◌ {A = ℕ} 0 1 = cc in omega arith)
+      ended w i e (Err p) f h = absurd (let z : ◌≡◌ {A = ℕ} 0 1 = cc in omega arith)
 
-      go : (n : Number) → number_at s at ≡ n →
-          on_number n (λ w i. on_expected (expected_at s i lf) (λ next. number.Good w next) number.Bad) number.Bad ≡ number.Good v next →
+      go : (n : Read ℕ) → number_at s at ≡ n →
+          ◌≡◌ {A = Read ℕ} (on_read n (λ w i. on_result (expected_at s i lf) (λ next. Ok (w, next)) Err) Err) (Ok (v, next)) →
           next ≡ at + length (line_of (drop at s))
-      go (number.Good w i) e h = ended w i e (expected_at s i lf) refl h
-      go (number.Bad p) e h = absurd (let z : ◌≡◌ {A = ℕ} 0 1 = cc in omega arith)
+      go (Ok (w, i)) e h = ended w i e (expected_at s i lf) refl h
+      go (Err p) e h = absurd (let z : ◌≡◌ {A = ℕ} 0 1 = cc in omega arith)
 
   start-next : (n : ℕ) {at next : ℕ} → at ≡ start_after n s → next ≡ at + length (line_at s at) → next ≡ start_after (suc n) s
   unfolding start_after
@@ -150,19 +149,19 @@ module _ (s : List ℕ) where
           commands = λ k a b. or_this CommandLine here k b (g.commands k a);
         }
 
-  header-line-good : (at : ℕ) {v next : ℕ} → header_line_at s at ≡ number.Good v next → HeaderLine (line_at s at)
+  header-line-good : (at : ℕ) {v next : ℕ} → header_line_at s at ≡ Ok (v, next) → HeaderLine (line_at s at)
   unfolding header_line_at
   header-line-good at {v} {next} e = subst (Found HeaderLine at (line_at s at)) (go (number_at s at) e) (header-found s at)
     where
-      ended : (w : ℕ) (m : Expected) → on_expected m (λ next. number.Good w next) number.Bad ≡ number.Good v next →
-          on_expected m (λ next. good) fault ≡ good
-      ended w (expected.Past j) h = refl
-      ended w (expected.Bad q) h = absurd (let z : ◌≡◌ {A = ℕ} 0 1 = cc in omega arith)
+      ended : (w : ℕ) (m : Result ℕ ℕ) → ◌≡◌ {A = Read ℕ} (on_result m (λ next. Ok (w, next)) Err) (Ok (v, next)) →
+          on_result m (λ next. good) fault ≡ good
+      ended w (Ok j) h = refl
+      ended w (Err q) h = absurd (let z : ◌≡◌ {A = ℕ} 0 1 = cc in omega arith)
 
-      go : (n : Number) → on_number n (λ w i. on_expected (expected_at s i lf) (λ next. number.Good w next) number.Bad) number.Bad ≡ number.Good v next →
-          on_number n (λ w i. on_expected (expected_at s i lf) (λ next. good) fault) fault ≡ good
-      go (number.Good w i) h = ended w (expected_at s i lf) h
-      go (number.Bad q) h = absurd (let z : ◌≡◌ {A = ℕ} 0 1 = cc in omega arith)
+      go : (n : Read ℕ) → ◌≡◌ {A = Read ℕ} (on_read n (λ w i. on_result (expected_at s i lf) (λ next. Ok (w, next)) Err) Err) (Ok (v, next)) →
+          on_read n (λ w i. on_result (expected_at s i lf) (λ next. good) fault) fault ≡ good
+      go (Ok (w, i)) h = ended w (expected_at s i lf) h
+      go (Err q) h = absurd (let z : ◌≡◌ {A = ℕ} 0 1 = cc in omega arith)
 
   -- a line that is not refused is good
   pub command-line-good : (at : ℕ) (terms : Terms) (held : List Stash) → refusal_of least_blocks (line_at s at) terms held ≡ none → CommandLine (line_at s at)
@@ -173,40 +172,41 @@ module _ (s : List ℕ) where
 
   -- ---- 3
 
-  header-fault : (at : ℕ) {p : ℕ} → at ≤ length s → header_line_at s at ≡ number.Bad p → FaultAt HeaderLine s at p
+  header-fault : (at : ℕ) {p : ℕ} → at ≤ length s → header_line_at s at ≡ Err p → FaultAt HeaderLine s at p
   unfolding header_line_at
   header-fault at {p} h e =
       let f = subst (Found HeaderLine at (line_at s at)) (go (number_at s at) e) (header-found s at) in
       record { first = f; place = fault-at HeaderLine header-ends s at h f }
     where
-      ended : (w : ℕ) (m : Expected) → on_expected m (λ next. number.Good w next) number.Bad ≡ number.Bad p →
-          on_expected m (λ next. good) fault ≡ fault p
-      ended w (expected.Past j) h = absurd (let z : ◌≡◌ {A = ℕ} 0 1 = cc in omega arith)
-      ended w (expected.Bad q) h = cc
+      ended : (w : ℕ) (m : Result ℕ ℕ) → ◌≡◌ {A = Read ℕ} (on_result m (λ next. Ok (w, next)) Err) (Err p) →
+          on_result m (λ next. good) fault ≡ fault p
+      ended w (Ok j) h = absurd (let z : ◌≡◌ {A = ℕ} 0 1 = cc in omega arith)
+      ended w (Err q) h = cc
 
-      go : (n : Number) → on_number n (λ w i. on_expected (expected_at s i lf) (λ next. number.Good w next) number.Bad) number.Bad ≡ number.Bad p →
-          on_number n (λ w i. on_expected (expected_at s i lf) (λ next. good) fault) fault ≡ fault p
-      go (number.Good w i) h = ended w (expected_at s i lf) h
-      go (number.Bad q) h = cc
+      go : (n : Read ℕ) → ◌≡◌ {A = Read ℕ} (on_read n (λ w i. on_result (expected_at s i lf) (λ next. Ok (w, next)) Err) Err) (Err p) →
+          on_read n (λ w i. on_result (expected_at s i lf) (λ next. good) fault) fault ≡ fault p
+      go (Ok (w, i)) h = ended w (expected_at s i lf) h
+      go (Err q) h = cc
 
   abbrev HeaderFault : ℕ → ℕ → Type 0
   HeaderFault line byte = (0 < line) × (line < first_line) × Pinpoints HeaderLine s (refusing_at header_form line byte)
 
   -- line k of the header, which starts at `at`, is at fault; or the fault is in the rest
-  header_or : (k : ℕ) {at line byte : ℕ} (rest : ℕ → ℕ → HeaderRead) → 0 < k → k < first_line → at ≤ length s → at ≡ line_start s k → GoodBefore s k →
-      on_number (header_line_at s at) rest (header.Bad k) ≡ header.Bad line byte →
-      ((v next : ℕ) → header_line_at s at ≡ number.Good v next → GoodBefore s (suc k) → rest v next ≡ header.Bad line byte → HeaderFault line byte) →
+  header_or : (k : ℕ) {at line byte : ℕ} (rest : ℕ → ℕ → Result Header BadHeader) → 0 < k → k < first_line → at ≤ length s → at ≡ line_start s k → GoodBefore s k →
+      on_read (header_line_at s at) rest (λ x. Err (fault_at k x)) ≡ Err (fault_at line byte) →
+      ((v next : ℕ) → header_line_at s at ≡ Ok (v, next) → GoodBefore s (suc k) → rest v next ≡ Err (fault_at line byte) → HeaderFault line byte) →
       HeaderFault line byte
   header_or k {at} {line} {byte} rest a b w e before h more = go (header_line_at s at) refl h
     where
-      go : (n : Number) → header_line_at s at ≡ n → on_number n rest (header.Bad k) ≡ header.Bad line byte → HeaderFault line byte
-      go (number.Good v next) f g = more v next f (good-header k e before b (header-line-good at f)) g
-      go (number.Bad p) f g =
-          let x : line ≡ k = cc in
-          let y : byte ≡ p = cc in
+      go : (n : Read ℕ) → header_line_at s at ≡ n → on_read n rest (λ x. Err (fault_at k x)) ≡ Err (fault_at line byte) → HeaderFault line byte
+      go (Ok (v, next)) f g = more v next f (good-header k e before b (header-line-good at f)) g
+      go (Err p) f g =
+          let q : fault_at line byte ≡ fault_at k p = cc in
+          let x : line ≡ k = ap (λ (b : BadHeader). b.line) q in
+          let y : byte ≡ p = ap (λ (b : BadHeader). b.byte) q in
           rw (x, y) (a, b, record { before = before; fault = rw (sym e) (header-fault at w f) })
 
-  header_pinpoints : {line byte : ℕ} → header_of s ≡ header.Bad line byte → HeaderFault line byte
+  header_pinpoints : {line byte : ℕ} → header_of s ≡ Err (fault_at line byte) → HeaderFault line byte
   unfolding header_of start_after
   header_pinpoints h =
       header_or 1 _ (omega arith) (omega arith) (omega arith) refl good-at-first h (λ version i l₁ g₁ h₁.
@@ -221,7 +221,7 @@ module _ (s : List ℕ) where
   abbrev pub Fifth : ℕ → Type 0
   Fifth first = (first ≡ line_start s first_line) × GoodBefore s first_line
 
-  pub first-start : {h : Header} → header_of s ≡ header.Good h → Fifth h.first
+  pub first-start : {h : Header} → header_of s ≡ Ok h → Fifth h.first
   unfolding header_of start_after
   first-start e =
       line-then (header_line_at s 0) _ _ e (λ version i l₁ e₁.
@@ -242,20 +242,20 @@ module _ (s : List ℕ) where
   unfolding start_refusal
   start-reports lengths = go (header_of s) refl
     where
-      rows : (read : HeaderRead) → header_of s ≡ read → Reports s (first_of (header_rows lengths read) no_refusal)
-      rows (header.Bad line byte) e =
+      rows : (read : Result Header BadHeader) → header_of s ≡ read → Reports s (first_of (header_rows lengths read) no_refusal)
+      rows (Err bad) e =
           record {
             header = λ h. header_pinpoints e;
             line = λ h. absurd (let z : ◌≡◌ {A = ℕ} header_form line_form = h in omega arith);
             other = λ h. absurd (let z : ◌≡◌ {A = ℕ} 0 1 = cc in omega arith);
           }
-      rows (header.Good h) e =
+      rows (Ok h) e =
           picks (Reports s) (no (eqb h.version version3)) (refusing other_version 1) _ (λ t. plain-reports s other_version 1 refl)
           (λ t. picks (Reports s) (ltb most_stashes h.stashes) (refusing header_limit 3) _ (λ u. plain-reports s header_limit 3 refl)
           (λ u. picks (Reports s) (ltb (lengths.stash / block_bytes) h.blocks) (refusing header_limit 4) no_refusal
           (λ v. plain-reports s header_limit 4 refl) (λ v. plain-reports s none 0 refl)))
 
-      go : (read : HeaderRead) → header_of s ≡ read → Reports s (first_of (start_rows s lengths read) no_refusal)
+      go : (read : Result Header BadHeader) → header_of s ≡ read → Reports s (first_of (start_rows s lengths read) no_refusal)
       go read e =
           picks (Reports s) (no (are_areas lengths)) (refusing area_size 0) _ (λ t. plain-reports s area_size 0 refl)
           (λ t. picks (Reports s) (ltb most_list_bytes (length s)) (refusing list_length 0) _ (λ u. plain-reports s list_length 0 refl)
@@ -318,9 +318,9 @@ module _ (s : List ℕ) where
       picks (Reports s) (eqb (start_refusal s lengths).number none) (commands_refusal least_blocks s lengths (header_of s)) (start_refusal s lengths)
       (λ t. go (header_of s) refl) (λ t. start-reports lengths)
     where
-      go : (read : HeaderRead) → header_of s ≡ read → Reports s (commands_refusal least_blocks s lengths read)
-      go (header.Good h) e = let f = first-start e in lines_report (suc (length s)) (terms_of lengths h) h first_line h.first [] 0 (omega arith) f.0 f.1
-      go (header.Bad line byte) e = plain-reports s none 0 refl
+      go : (read : Result Header BadHeader) → header_of s ≡ read → Reports s (commands_refusal least_blocks s lengths read)
+      go (Ok h) e = let f = first-start e in lines_report (suc (length s)) (terms_of lengths h) h first_line h.first [] 0 (omega arith) f.0 f.1
+      go (Err bad) e = plain-reports s none 0 refl
 
   -- the refusal that an opening's state holds: 3 and 6 name the first line that is not good, and report the first byte at which no good line
   -- could go on; every other number reports no byte

@@ -1,7 +1,7 @@
 -- Document 01, "Refusal numbers", and document 02, R-1, R-4 and R-6: an opening checks the whole text, changes nothing, and gives number and
 -- line, 3 and 6 with the byte. An opening is accepted when none of 1 to 15 and 18 applies.
 -- Assumes nothing: these are definitions.
-use Rattle.std.specs.Prelude.{ℕ, zero, suc, ◌+◌, ◌/◌, List, [], ◌∷◌, length, leb, eqb}
+use Rattle.std.specs.Prelude.{ℕ, zero, suc, ◌+◌, ◌/◌, List, [], ◌∷◌, length, leb, eqb, Result, Ok, Err}
 use Rattle.text.specs.Choice.{pick, no}
 use Rattle.text.specs.Rows.{◌⇒◌, first_of}
 use Rattle.text.specs.Line.{line_at}
@@ -21,8 +21,7 @@ use Rattle.rules.specs.declared.Terms.{Terms}
 use Rattle.rules.specs.Held.{held_after}
 use Rattle.transfer_list.specs.Header.{first_line, header_of, start_refusal}
 use Rattle.transfer_list.specs.declared.header.Header.{Header}
-use Rattle.transfer_list.specs.declared.header.HeaderRead.{HeaderRead}
-use Rattle.transfer_list.specs.declared.header.HeaderRead.TheVariants.{Good, Bad}
+use Rattle.transfer_list.specs.declared.header.BadHeader.{BadHeader}
 
 -- what a line is checked against: the areas' blocks, the patch data's bytes, and lines 3 and 4
 abbrev pub terms_of : Lengths → Header → Terms
@@ -71,9 +70,9 @@ lines_refusal least (suc n) s terms h line at held counted =
     (line_refusal least s terms line at held))
 
 -- the command lines; a text has fewer of them than characters
-unfoldable pub commands_refusal : ℕ → List ℕ → Lengths → HeaderRead → Refusal
-commands_refusal least s lengths (Good h) = lines_refusal least (suc (length s)) s (terms_of lengths h) h first_line h.first [] 0
-commands_refusal least s lengths (Bad line byte) = no_refusal
+unfoldable pub commands_refusal : ℕ → List ℕ → Lengths → Result Header BadHeader → Refusal
+commands_refusal least s lengths (Ok h) = lines_refusal least (suc (length s)) s (terms_of lengths h) h first_line h.first [] 0
+commands_refusal least s lengths (Err bad) = no_refusal
 
 -- 1 to 5, then the command lines
 unfoldable pub open_refusal : ℕ → List ℕ → Lengths → Refusal
@@ -81,9 +80,9 @@ open_refusal least s lengths =
     pick (eqb (start_refusal s lengths).number none) (commands_refusal least s lengths (header_of s)) (start_refusal s lengths)
 
 -- where the command lines start
-unfoldable pub first_at : HeaderRead → ℕ
-first_at (Good h) = h.first
-first_at (Bad line byte) = 0
+unfoldable pub first_at : Result Header BadHeader → ℕ
+first_at (Ok h) = h.first
+first_at (Err bad) = 0
 
 -- an accepted opening's state: at the first command line, no stash, nothing taken, no refusal
 unfoldable pub accepted_state : List ℕ → Lengths → State

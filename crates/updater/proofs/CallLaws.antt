@@ -1,13 +1,13 @@
 -- One call, case by case: a refusal that is held, a state that is not possible, and a run, with a stop at its end or none, for which a possible
 -- state is ready.
 -- Assumes nothing.
-use Rattle.std.proofs.Common.{◌≡◌, ℕ, ◌+◌, ◌-◌, ◌^◌, ◌<◌, ◌≤◌, Bool, true, false, eqb, leb, List, length, get_or, take, refl, ap, arith, length-take, eq-eqb, ne_eqb, eqb-true, leb-true}
+use Rattle.std.proofs.Common.{◌≡◌, ℕ, ◌+◌, ◌-◌, ◌≤◌, Bool, true, false, eqb, leb, List, length, get_or, take, refl, ap, arith, length-take, eq-eqb, ne_eqb, eqb-true, leb-true}
 use Rattle.text.specs.Choice.{pick, no}
 use Rattle.text.specs.Line.{line_number}
 use Rattle.text.specs.Expected.{lf}
 use Rattle.text.proofs.LineLaws.{lfs_most}
 use Rattle.ranges.specs.Ranges.{least_blocks}
-use Rattle.state.specs.Limits.{most_stashes, table_bytes}
+use Rattle.state.specs.Limits.{most_stashes}
 use Rattle.state.specs.Refusals.{none, state_impossible}
 use Rattle.state.specs.Stashes.{table_of, held, held_twice, holds_empty, blocks_held}
 use Rattle.state.specs.States.{refusing}
@@ -17,7 +17,6 @@ use Rattle.rules.specs.declared.Terms.{Terms}
 use Rattle.transfer_list.specs.Header.{header_of, start_refusal}
 use Rattle.transfer_list.specs.Opening.{terms_of}
 use Rattle.transfer_list.specs.declared.header.Header.{Header}
-use Rattle.transfer_list.specs.declared.header.HeaderRead.TheVariants.{Good}
 use Rattle.transfer_list.proofs.HeaderLaws.{start_none}
 use Rattle.machine.specs.Machine.{Machine}
 use Rattle.machine.specs.Stops.{going_on, halting, call_takes}
@@ -25,14 +24,14 @@ use Rattle.machine.proofs.MachineLaws.{Sound, counts-most}
 use Rattle.updater.specs.Areas.{Areas}
 use Rattle.updater.specs.Steps.{Config, config_of}
 use Rattle.updater.specs.Run.{halts_at, machine, reached, run_of}
-use Rattle.updater.specs.Fits.{Fits}
+use Rattle.updater.specs.Fits.{Typed, Fits}
 use Rattle.possible.specs.Possible.{same_lengths, at_line, can_hold, can_be_into, can_be_ready, can_be_stretched, possible_under, is_possible, terms_under}
 use Rattle.possible.specs.Possible.{terms_for}
-use Rattle.updater.specs.Calls.{outcome_at, outcome_of, lengths_at, is_run, ran, leaves, takes, stops, says, Result, result_of, call_of}
-use Rattle.updater.specs.declared.Called.{Called}
+use Rattle.updater.specs.Calls.{outcome_at, outcome_of, lengths_at, is_run, ran, leaves, takes, stops, says, Left, CallResult, result_of, call_of}
 use Rattle.updater.specs.declared.Outcome.{Outcome}
 use Rattle.updater.specs.declared.Outcome.TheVariants.{Stop, Refused}
 use Rattle.text.proofs.ChoiceLaws.{picks, both_true}
+use Rattle.std.specs.Prelude.{Ok}
 
 -- ---- a possible state is ready to run
 
@@ -45,11 +44,11 @@ line_number-most s at = omega (arith, lfs_most (take at s), length-take at s)
 record Tested (s : List ℕ) (h : Header) (state : State) : Type 0 where
   at : state.at ≤ length s
   line : state.line ≤ state.at + 1
-  count : state.count ≤ most_stashes
+  count : state.table.count ≤ most_stashes
   blocks : blocks_held (held state) ≤ h.blocks
   stretches : can_be_stretched least_blocks s state.at (held state) state.stretches ≡ true
 
-tested : (s : List ℕ) (lengths : Lengths) (h : Header) (state : State) → possible_under least_blocks s lengths (Good h) state ≡ true → Tested s h state
+tested : (s : List ℕ) (lengths : Lengths) (h : Header) (state : State) → possible_under least_blocks s lengths (Ok h) state ≡ true → Tested s h state
 unfolding possible_under at_line can_hold
 tested s lengths h state e =
     let a = both_true (at_line s h state.line state.at) _ e in
@@ -57,7 +56,7 @@ tested s lengths h state e =
     let within = both_true (leb state.at (length s)) _ first.1 in
     let ended = both_true (eqb (get_or s (state.at - 1) 0) lf) _ within.1 in
     let holds = both_true (can_hold h (table_of state)) _ a.1 in
-    let few = both_true (leb state.count most_stashes) _ holds.0 in
+    let few = both_true (leb state.table.count most_stashes) _ holds.0 in
     let once = both_true (no (held_twice (held state))) _ few.1 in
     let none = both_true (no (holds_empty (held state))) _ once.1 in
     let into = both_true (can_be_into least_blocks s (terms_of lengths h) state.at state.into) _ holds.1 in
@@ -66,20 +65,19 @@ tested s lengths h state e =
     record {
       at = leb-true state.at (length s) within.0;
       line = omega (arith, line_number-most s state.at);
-      count = leb-true state.count most_stashes few.0;
+      count = leb-true state.table.count most_stashes few.0;
       blocks = leb-true (blocks_held (held state)) h.blocks none.1;
       stretches = ready.1;
     }
 
-terms-read : (s : List ℕ) (lengths : Lengths) {h : Header} → header_of s ≡ Good h → terms_for s lengths ≡ terms_of lengths h
+terms-read : (s : List ℕ) (lengths : Lengths) {h : Header} → header_of s ≡ Ok h → terms_for s lengths ≡ terms_of lengths h
 unfolding terms_for terms_under
 terms-read s lengths e = rw e
 
 module _ (s : List ℕ) (p : Config) where
-  pub possible-fits : is_possible least_blocks s (lengths_at s p.areas) p.state ≡ true → length p.state.hashes ≡ table_bytes →
-      length p.state.sizes ≡ most_stashes → p.state.total < 2 ^ 64 → Fits s (terms_for s (lengths_at s p.areas)) p
+  pub possible-fits : is_possible least_blocks s (lengths_at s p.areas) p.state ≡ true → Typed p.state → Fits s (terms_for s (lengths_at s p.areas)) p
   unfolding is_possible
-  possible-fits e hashes sizes total =
+  possible-fits e typed =
       let lengths = lengths_at s p.areas in
       let a = both_true (same_lengths p.state.lengths lengths) _ e in
       let b = both_true (eqb (start_refusal s lengths).number none) _ a.1 in
@@ -97,9 +95,9 @@ module _ (s : List ℕ) (p : Config) where
         stash = omega (arith, o.blocks);
         most-blocks = omega (arith, o.blocks, o.stash.fits);
         most-stashes = o.stashes;
-        whole = record { hashes = hashes; sizes = sizes; count = t.count };
+        whole = record { hashes = typed.hashes; sizes = typed.sizes; count = t.count };
         blocks = t.blocks;
-        total = total;
+        total = typed.total;
         stretches = t.stretches;
       }
 
@@ -162,18 +160,18 @@ takes-most s q p =
           put_keeps = λ m x v. absurd v;
         }
 
-module _ (s q : List ℕ) (p : Config) {areas : Areas} {called : Called} (e : result_of areas called ≡ call_of least_blocks s q p) where
+module _ (s q : List ℕ) (p : Config) {areas : Areas} {called : Left} (e : result_of areas called ≡ call_of least_blocks s q p) where
   pub call-leaves : config_of areas called.state ≡ leaves least_blocks s q p
   unfolding call_of
-  call-leaves = ap (λ (r : Result). config_of r.areas r.called.state) e
+  call-leaves = ap (λ (r : CallResult). config_of r.areas r.called.state) e
 
   pub call_takes_lem : called.taken ≡ takes least_blocks s q p
   unfolding call_of
-  call_takes_lem = ap (λ (r : Result). r.called.taken) e
+  call_takes_lem = ap (λ (r : CallResult). r.called.taken) e
 
   pub call-says : called.outcome ≡ says least_blocks s q p
   unfolding call_of
-  call-says = ap (λ (r : Result). r.called.outcome) e
+  call-says = ap (λ (r : CallResult). r.called.outcome) e
 
   -- no more is taken than the piece has
   pub call-most : called.taken ≤ length q

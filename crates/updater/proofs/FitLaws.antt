@@ -9,11 +9,10 @@ use Rattle.text.proofs.LineLaws.{line_some, line-within}
 use Rattle.ranges.specs.Ranges.{least_blocks}
 use Rattle.state.specs.Limits.{most_area_blocks}
 use Rattle.state.specs.Refusals.{none}
-use Rattle.state.specs.Stashes.{Stash, Table, Whole, table_of, held_in, held, find_in, size_at, blocks_held, younger}
+use Rattle.state.specs.declared.stashes.Table.{Table}
+use Rattle.state.specs.Stashes.{Stash, Whole, table_of, held_in, held, find_in, size_at, blocks_held, younger}
 use Rattle.state.specs.States.{with_table, is_ready}
 use Rattle.state.specs.Stretches.{is_stretch}
-use Rattle.state.specs.declared.stashes.Found.{Found}
-use Rattle.state.specs.declared.stashes.Found.TheVariants.{At, Nothing}
 use Rattle.state.specs.declared.State.{State}
 use Rattle.command.specs.Commands.{command_of}
 use Rattle.command.specs.declared.Command.{Command}
@@ -38,6 +37,7 @@ use Rattle.updater.specs.Fits.{Fits}
 use Rattle.updater.proofs.EffectLaws.{lengths_refl, in_run_some}
 use Rattle.updater.proofs.StepLaws.{step-lengths, step-refuses}
 use Rattle.updater.proofs.RunnableLaws.{runnable, keeps, stretches-few}
+use Rattle.std.specs.Prelude.{Option, Some, None}
 
 -- ---- how a step ends
 
@@ -62,13 +62,13 @@ module _ (l : List ℕ) (xs : List Stash) (hash : List ℕ) (ready k : ℕ) (a :
       let number = (filled l xs hash c a).refusal in
       picks (Told xs hash c ready k) (eqb number none) Filled (Refused number) (λ u. e) (λ u. tt)))
 
-  free_told : (f : Found) → find_in xs hash ≡ f → Told xs hash command.Free ready k (free_step xs k a f).end
+  free_told : (f : Option ℕ) → find_in xs hash ≡ f → Told xs hash command.Free ready k (free_step xs k a f).end
   unfolding free_step frees_on found_stretch
-  free_told (At j) e =
+  free_told (Some j) e =
       picks (Told xs hash command.Free ready k) (is_stretch (size_at xs j) (younger xs j) (k + 1)) Stretched _
       (λ t. rw e t)
       (λ t. picks (Told xs hash command.Free ready k) (is_stretch (size_at xs j) (younger xs j) k) Ended Passed (λ u. tt) (λ u. tt))
-  free_told Nothing e = tt
+  free_told None e = tt
 
   step-told : (c : Command) → Told xs hash c ready k (step_of l xs hash c ready k a).end
   unfolding step_of

@@ -15,14 +15,12 @@ use Rattle.command.specs.Commands.{command_of}
 use Rattle.command.specs.Faults.{fault_byte}
 use Rattle.faults.proofs.Faults.{fault-within}
 use Rattle.command.specs.Targets.{new_target}
-use Rattle.command.specs.declared.targets.NewTarget.TheVariants as new
 use Rattle.command.specs.declared.Command.{Command}
 use Rattle.command.specs.declared.Line.{Line}
 use Rattle.command.specs.declared.Command.TheVariants as command
 use Rattle.rules.specs.Held.{table_after}
-use Rattle.rules.specs.Rules.{checked_of}
+use Rattle.rules.specs.Rules.{CheckedLine, checked_of}
 use Rattle.rules.specs.declared.Terms.{Terms}
-use Rattle.rules.specs.declared.Checked.{Checked}
 use Rattle.machine.proofs.LoopLaws.{puts}
 use Rattle.machine.proofs.HaltLoopLaws.{CallEnds, GoesOn, goes_on_lem, step-on, step-stops, puts-on, stopped-ends, waiting_ends}
 use Rattle.possible.specs.Possible.{frees_on, can_be_stretched}
@@ -39,10 +37,11 @@ use Rattle.updater.proofs.RunnableLaws.{runnable, next-at, new_bytes-most}
 use Rattle.updater.proofs.FitLaws.{NotStopped, fits-sound}
 use Rattle.updater.proofs.AtLineLaws.{refused-moves, refused-step, moves, waits, step, halts_here_lem, halts-not}
 use Rattle.updater.proofs.AtLineLaws.{fed, fed-goes, fed-refusal, eats_new, puts_new}
+use Rattle.std.specs.Prelude.{Some, None}
 
 -- ---- what a command wants
 
-pub is_new : (c : Command) {set : RangeSet} → new_target c ≡ new.Set set → c ≡ command.New set
+pub is_new : (c : Command) {set : RangeSet} → new_target c ≡ Some set → c ≡ command.New set
 unfolding new_target
 is_new (command.Zero set) e = absurd (let z : ◌≡◌ {A = ℕ} 0 1 = cc in omega arith)
 is_new (command.Erase set) e = absurd (let z : ◌≡◌ {A = ℕ} 0 1 = cc in omega arith)
@@ -84,7 +83,7 @@ module _ (s : List ℕ) (p : Config) where
 -- ---- the turns of the loop
 
 -- the run goes on, and the line at hand was read and checked
-pub record Checks (s : List ℕ) (terms : Terms) (p : Config) (l : List ℕ) (checked : Checked) : Type 0 where
+pub record Checks (s : List ℕ) (terms : Terms) (p : Config) (l : List ℕ) (checked : CheckedLine) : Type 0 where
   pub going : NotStopped s p
   pub line : l ≡ current_line s p
   pub result : checked ≡ checked_of least_blocks l terms (held p.state)
@@ -125,7 +124,7 @@ module _ {s piece : List ℕ} {terms : Terms} {p₀ p : Config} {i : ℕ} (a : R
   pub stops-finished : length s ≤ p.state.at → RunEnds s terms piece p₀ p false i
   stops-finished h = ends (finished-stops s p h)
 
-module _ {s : List ℕ} {terms : Terms} {p : Config} {l : List ℕ} {checked : Checked} (c : Checks s terms p l checked) where
+module _ {s : List ℕ} {terms : Terms} {p : Config} {l : List ℕ} {checked : CheckedLine} (c : Checks s terms p l checked) where
   checked-refusal : checked.refusal ≡ refusal_here least_blocks s terms p
   unfolding checked_of
   checked-refusal = rw (c.result, c.line)
@@ -137,7 +136,7 @@ module _ {s : List ℕ} {terms : Terms} {p : Config} {l : List ℕ} {checked : C
   checked-command : current_command least_blocks s p ≡ checked.line.command
   checked-command = sym (ap (λ (k : Line). k.command) checked-line)
 
-module _ {s : List ℕ} {terms : Terms} {p : Config} {l : List ℕ} {checked : Checked}
+module _ {s : List ℕ} {terms : Terms} {p : Config} {l : List ℕ} {checked : CheckedLine}
     (f : Fits s terms p) (c : Checks s terms p l checked) where
   -- the numbers of the next line fit
   pub checked-at : p.state.at + length l < 2 ^ 64
@@ -160,7 +159,7 @@ module _ {s : List ℕ} {terms : Terms} {p : Config} {l : List ℕ} {checked : C
     pub checked-runs : Runnable l (held p.state) p.areas checked.line.command
     checked-runs = rw (c.line, checked-line c) (runnable s terms p f unrefused)
 
-    module _ {set : RangeSet} (w : new_target checked.line.command ≡ new.Set set) where
+    module _ {set : RangeSet} (w : new_target checked.line.command ≡ Some set) where
       new_here : current_command least_blocks s p ≡ command.New set
       new_here = checked-command c ∙ is_new checked.line.command w
 
@@ -173,7 +172,7 @@ module _ {s : List ℕ} {terms : Terms} {p : Config} {l : List ℕ} {checked : C
           p.state.into + min n (block_bytes * length (blocks_at l set.at) - p.state.into) < 2 ^ 64
       new_counts n h = let m = new_bytes-most s terms p f unrefused new_here in let k = new_in_image.size in omega arith
 
-module _ {s piece l : List ℕ} {terms : Terms} {p₀ p : Config} {i : ℕ} {checked : Checked}
+module _ {s piece l : List ℕ} {terms : Terms} {p₀ p : Config} {i : ℕ} {checked : CheckedLine}
     (a : Runs s terms piece p₀ p i) (c : Checks s terms p l checked) where
   -- the line is refused
   pub refuses : {byte : ℕ} {t : State} → (checked.refusal ≡ none → ⊥) → byte ≡ fault_byte p.state.at checked.line.command →
@@ -186,7 +185,7 @@ module _ {s piece l : List ℕ} {terms : Terms} {p₀ p : Config} {i : ℕ} {che
 
   module _ (e : checked.refusal ≡ none) where
     -- a step of a command that needs no byte, with what it leaves of the areas and of the state, and how it ends
-    module _ (w : new_target checked.line.command ≡ new.None) {b : Areas} {x : StepEnd} {t : State}
+    module _ (w : new_target checked.line.command ≡ None) {b : Areas} {x : StepEnd} {t : State}
         (step_is : stepped b x
         ≡ step_of l (held p.state) checked.line.hash checked.line.command p.state.ready p.state.stretches p.areas)
         (state-is : t ≡ state_after l checked.line.hash checked.line.command p.state x) where
@@ -225,7 +224,7 @@ module _ {s piece l : List ℕ} {terms : Terms} {p₀ p : Config} {i : ℕ} {che
       halts h n = ends (runs h).same (refused-stops s (config_of b t) n)
 
     -- the bytes of a `new`, up to its last one or the piece's last one
-    module _ {set : RangeSet} {image : List ℕ} {r : ℕ} {t : State} (w : new_target checked.line.command ≡ new.Set set)
+    module _ {set : RangeSet} {image : List ℕ} {r : ℕ} {t : State} (w : new_target checked.line.command ≡ Some set)
         (took : r ≡ i + min (length piece - i) (block_bytes * length (blocks_at l set.at) - p.state.into))
         (put : image ≡ put_bytes (blocks_at l set.at) p.state.into (take (r - i) (drop i piece)) p.areas.image)
         (state-is : t ≡ further_into p.state (r - i)) where

@@ -1,6 +1,6 @@
 -- Laws of the stashes spread over the work area, and of a source put together there.
 -- Assumes nothing.
-use Rattle.std.proofs.Common.{◌≡◌, ℕ, ◌+◌, ◌-◌, ◌*◌, ◌/◌, ◌≤◌, List, [], ◌∷◌, length, take, refl, ap, ◌∙◌, subst, arith, length-drop, length-take}
+use Rattle.std.proofs.Common.{◌≡◌, ℕ, ◌+◌, ◌*◌, ◌/◌, ◌≤◌, List, [], ◌∷◌, length, take, refl, ap, ◌∙◌, subst, arith, length-drop, length-take}
 use Rattle.ranges.specs.Ranges.{span}
 use Rattle.ranges.specs.Walk.{blocks_at, walk_from, remaining}
 use Rattle.ranges.specs.declared.RangeSet.{RangeSet}
@@ -9,8 +9,6 @@ use Rattle.ranges.proofs.WalkLaws.{length-span, walk_start}
 use Rattle.state.specs.Limits.{block_bytes}
 use Rattle.state.specs.Stashes.{Stash, find_in, size_at, blocks_held, stash_start}
 use Rattle.state.specs.Sums.{bounded}
-use Rattle.state.specs.declared.stashes.Found.{Found}
-use Rattle.state.specs.declared.stashes.Found.TheVariants.{At, Nothing}
 use Rattle.state.proofs.StashLaws.{blocks_held-before}
 use Rattle.command.specs.Parts.{StashUse, uses_at}
 use Rattle.command.specs.declared.source.Source.{Source}
@@ -20,24 +18,13 @@ use Rattle.updater.specs.Bytes.{gathered, written}
 use Rattle.updater.specs.Source.{stash_bytes, spread, supplied, together}
 use Rattle.updater.specs.Runnable.{Keeps, FoundSize, Spread, Spreads, InImage, InWork, Sourced, blocks_in}
 use Rattle.updater.proofs.ByteLaws.{length-gathered, length-written, below_span, gathered-span}
+use Rattle.std.specs.Prelude.{Option, Some, None}
 
 -- the blocks of a walk from a set's start are the set's
 pub walk-blocks : (l : List ℕ) (at : ℕ) {w : Walk} → w ≡ walk_from l at → remaining l w ≡ blocks_at l at
 walk-blocks l at e = ap (remaining l) e ∙ walk_start l at
 
--- S over a row of as many places from 0 on supplies the work area
-pub supplied_by : (l image work : List ℕ) (at n : ℕ) {bs work' : List ℕ} → bs ≡ blocks_at l at →
-    work' ≡ written (span 0 (n - 0)) (gathered bs image) work → work' ≡ supplied l image at n work
-unfolding supplied
-supplied_by l image work at n e f = let z : n - 0 ≡ n = omega arith in f ∙ rw (z, e)
-
 -- ---- a stash that is found
-
-pub found-size : (xs : List Stash) (n : ℕ) {f : Found} {j : ℕ} → f ≡ At j → FoundSize xs n f → size_at xs j ≡ n
-found-size xs n e h = subst (FoundSize xs n) e h
-
-pub found_none : (xs : List Stash) (n : ℕ) {f : Found} → f ≡ Nothing → FoundSize xs n f → ⊥
-found_none xs n e h = subst (FoundSize xs n) e h
 
 module _ (xs : List Stash) (stash : List ℕ) (k : Keeps xs stash) where
   -- it lies within the stash area, where all of them do
@@ -48,24 +35,24 @@ module _ (xs : List Stash) (stash : List ℕ) (k : Keeps xs stash) where
   pub start_exact : (j : ℕ) {n : ℕ} → n ≡ bounded (blocks_held (take j xs)) → n ≡ stash_start xs j
   start_exact j e = omega (arith, blocks_held-before xs j, k.blocks)
 
+  -- its blocks, as many as the places, are within the stash area, and together they are its bytes
+  pub stash_row : (hash : List ℕ) (n : ℕ) {j start : ℕ} → find_in xs hash ≡ Some j → start ≡ bounded (blocks_held (take j xs)) →
+      FoundSize xs n (find_in xs hash) → (block_bytes * (start + n) ≤ length stash) × (gathered (span start n) stash ≡ stash_bytes xs stash hash)
+  unfolding stash_bytes
+  stash_row hash n {j = j} {start = start} e f h =
+      let s : size_at xs j ≡ n = subst (FoundSize xs n) e h in
+      let t = start_exact j f in
+      (rw t (stash-within j s), rw (e, gathered-span start n stash, s, t))
+
   pub length-stash_bytes : (hash : List ℕ) (n : ℕ) → FoundSize xs n (find_in xs hash) → length (stash_bytes xs stash hash) ≡ block_bytes * n
   unfolding stash_bytes
   length-stash_bytes hash n h = go (find_in xs hash) refl h
     where
-      go : (f : Found) → find_in xs hash ≡ f → FoundSize xs n f → length (stash_bytes xs stash hash) ≡ block_bytes * n
-      go (At j) e h =
+      go : (f : Option ℕ) → find_in xs hash ≡ f → FoundSize xs n f → length (stash_bytes xs stash hash) ≡ block_bytes * n
+      go (Some j) e h =
           let w = stash-within j h in
           rw (e, h) (simp (length-take, length-drop) (omega arith))
-      go Nothing e h = absurd h
-
--- its row of blocks, over the places of a set
-pub spread_by : (l : List ℕ) (xs : List Stash) (stash hash work : List ℕ) (at : ℕ) {bs work' : List ℕ} {j start size : ℕ} → bs ≡ blocks_at l at →
-    find_in xs hash ≡ At j → start ≡ stash_start xs j → size ≡ size_at xs j →
-    work' ≡ written bs (gathered (span start (start + size - start)) stash) work → work' ≡ written (blocks_at l at) (stash_bytes xs stash hash) work
-unfolding stash_bytes
-spread_by l xs stash hash work at {start = start} {size} e d f g h =
-    let z : start + size - start ≡ size = omega arith in
-    h ∙ rw (e, d, z, gathered-span start size stash, f, g)
+      go None e h = absurd h
 
 -- ---- stashes over their places
 

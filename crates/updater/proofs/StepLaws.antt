@@ -1,36 +1,32 @@
 -- Laws of one step of a command: that a stretch lies among what is held and every area keeps its length, the step by its cases, and the
 -- numbers that it can be refused with.
 -- Assumes nothing.
-use Rattle.std.proofs.Common.{◌≡◌, ℕ, ◌+◌, ◌-◌, ◌*◌, ◌≤◌, Bool, true, false, eqb, List, length, take, sym, refl, ◌∙◌, subst, ⊎_elim, arith, eq-eqb, ne_eqb, eqb-true}
+use Rattle.std.proofs.Common.{◌≡◌, ℕ, ◌+◌, ◌-◌, ◌*◌, ◌≤◌, true, eqb, List, length, take, subst, ⊎_elim, arith, ne_eqb, eqb-true}
 use Rattle.text.specs.Choice.{pick, either}
 use Rattle.text.proofs.ChoiceLaws.{picks, either_true}
-use Rattle.ranges.specs.Walk.{blocks_at}
 use Rattle.ranges.specs.declared.RangeSet.{RangeSet}
 use Rattle.state.specs.Limits.{block_bytes, most_area_blocks}
 use Rattle.state.specs.Refusals.{none}
 use Rattle.state.specs.Stashes.{Stash, find_in, size_at, blocks_held, stash_start, younger}
 use Rattle.state.specs.States.{is_ready}
 use Rattle.state.specs.Stretches.{is_stretch, stretch_blocks}
-use Rattle.state.specs.declared.stashes.Found.{Found}
-use Rattle.state.specs.declared.stashes.Found.TheVariants.{At, Nothing}
 use Rattle.state.proofs.StashLaws.{blocks_held-before}
 use Rattle.state.proofs.StretchLaws.{stretch_some, stretch_few}
 use Rattle.command.specs.declared.Command.{Command}
 use Rattle.command.specs.declared.Command.TheVariants as command
-use Rattle.command.specs.Patching.{patching_of, result_hash}
-use Rattle.command.specs.declared.source.Source.{Source}
 use Rattle.possible.specs.Possible.{found_stretch, frees_on}
-use Rattle.updater.specs.Areas.{Areas, with_image, with_stash, SameLengths}
+use Rattle.updater.specs.Areas.{Areas, with_stash, SameLengths}
 use Rattle.copy.specs.Over.{over}
-use Rattle.updater.specs.Bytes.{zeroed, written, moved_down}
-use Rattle.updater.specs.Source.{blocks_hash_to, stretch_start, stretched}
-use Rattle.updater.specs.Effect.{effect_of, InRun, move_filled, bsdiff_filled, stash_filled, filled, written_from, is_finished}
+use Rattle.updater.specs.Bytes.{moved_down}
+use Rattle.updater.specs.Source.{stretch_start, stretched}
+use Rattle.updater.specs.Effect.{InRun, filled, written_from, is_finished}
 use Rattle.updater.specs.Runnable.{Keeps, Runnable}
 use Rattle.updater.specs.Steps.{Stepped, stepped, after_filling, fill_step, free_step, step_of}
 use Rattle.updater.specs.declared.commands.StepEnd.{StepEnd}
 use Rattle.updater.specs.declared.commands.StepEnd.TheVariants.{Passed, Ended, Filled, Stretched, Refused}
 use Rattle.updater.proofs.ByteLaws.{length-moved_down}
 use Rattle.updater.proofs.EffectLaws.{lengths_refl, stash-area-lengths, zeros-lengths, filled-lengths, written_from-lengths, filled-refusal}
+use Rattle.std.specs.Prelude.{Option, Some, None}
 
 -- ---- a stretch lies among what is held
 
@@ -88,11 +84,11 @@ fill_step-lengths l xs hash c ready a h r =
     (λ f. lengths_refl a)
     (λ f. filled-lengths l xs hash a c h r))
 
-free_step-lengths : (xs : List Stash) (k : ℕ) (a : Areas) → Keeps xs a.stash → (f : Found) →
+free_step-lengths : (xs : List Stash) (k : ℕ) (a : Areas) → Keeps xs a.stash → (f : Option ℕ) →
     either (eqb k 0) (found_stretch xs k f) ≡ true → SameLengths a (free_step xs k a f).areas
 unfolding free_step found_stretch
-free_step-lengths xs k a h (At j) e = stash-area-lengths a (length-stretched xs j k a.stash h e)
-free_step-lengths xs k a h Nothing e = lengths_refl a
+free_step-lengths xs k a h (Some j) e = stash-area-lengths a (length-stretched xs j k a.stash h e)
+free_step-lengths xs k a h None e = lengths_refl a
 
 pub step-lengths : (l : List ℕ) (xs : List Stash) (hash : List ℕ) (c : Command) (ready k : ℕ) (a : Areas) → Keeps xs a.stash →
     Runnable l xs a c → either (eqb k 0) (frees_on xs k hash c) ≡ true → SameLengths a (step_of l xs hash c ready k a).areas
@@ -107,87 +103,21 @@ step-lengths l xs hash command.Free ready k a h r e = free_step-lengths xs k a h
 step-lengths l xs hash command.Unsupported ready k a h r e = lengths_refl a
 step-lengths l xs hash (command.Bad p) ready k a h r e = lengths_refl a
 
--- ---- a step that fills, by its cases
+-- ---- a `stash` that is ready goes past the `start` blocks that are held
 
--- how filling ends, by the number of its refusal
-abbrev pub fill_end : ℕ → StepEnd
-fill_end number = pick (eqb number none) Filled (Refused number)
-
-module _ (l : List ℕ) (xs : List Stash) (hash : List ℕ) (c : Command) {ready : ℕ} (a : Areas) where
-  fill_writes_lem : (ready ≡ 0 → ⊥) → {b : Areas} → b ≡ written_from l xs c a → stepped b Ended ≡ fill_step l xs hash c ready a
-  unfolding fill_step
-  fill_writes_lem r e = rw (ne_eqb ready 0 r, e)
-
-  fill_skips : ready ≡ 0 → is_finished l hash c a.image ≡ true → stepped a Ended ≡ fill_step l xs hash c ready a
-  unfolding fill_step
-  fill_skips r f = rw (eq-eqb ready 0 r, f)
-
-  fill_fills : ready ≡ 0 → is_finished l hash c a.image ≡ false → {b : Areas} {number : ℕ} {end : StepEnd} →
-      effect_of b number ≡ filled l xs hash c a → end ≡ fill_end number → stepped b end ≡ fill_step l xs hash c ready a
-  unfolding fill_step
-  fill_fills r f e g = rw (eq-eqb ready 0 r, f, ← e, g)
-
-module _ (l : List ℕ) (xs : List Stash) (hash : List ℕ) {ready : ℕ} (a : Areas) where
-  -- `move`, `bsdiff`
-  module _ (target : RangeSet) (n : ℕ) (source : Source) where
-    pub move_writes : (ready ≡ 0 → ⊥) → {image : List ℕ} →
-        image ≡ written (blocks_at l target.at) (take (block_bytes * n) a.work) a.image →
-        stepped (with_image a image) Ended ≡ fill_step l xs hash (command.Move target n source) ready a
-    unfolding written_from
-    move_writes r e = fill_writes_lem l xs hash (command.Move target n source) a r (rw e)
-
-    pub bsdiff_writes : (ready ≡ 0 → ⊥) → {image : List ℕ} →
-        image ≡ written (blocks_at l target.at) (take (block_bytes * target.blocks) a.result) a.image →
-        stepped (with_image a image) Ended ≡ fill_step l xs hash (command.Bsdiff target n source) ready a
-    unfolding written_from
-    bsdiff_writes r e = fill_writes_lem l xs hash (command.Bsdiff target n source) a r (rw e)
-
-    -- .. with nothing ready, by what the blocks of the target hash to
-    module _ (none-ready : ready ≡ 0) {found : Bool} where
-      module _ (is : found ≡ blocks_hash_to (blocks_at l target.at) a.image hash) where
-        pub move_skips : found ≡ true → stepped a Ended ≡ fill_step l xs hash (command.Move target n source) ready a
-        unfolding is_finished
-        move_skips f = fill_skips l xs hash (command.Move target n source) a none-ready (sym is ∙ f)
-
-        pub move_fills : found ≡ false → {b : Areas} {number : ℕ} {end : StepEnd} → effect_of b number ≡ move_filled l xs hash n source a →
-            end ≡ fill_end number → stepped b end ≡ fill_step l xs hash (command.Move target n source) ready a
-        unfolding is_finished filled
-        move_fills f e g = fill_fills l xs hash (command.Move target n source) a none-ready (sym is ∙ f) e g
-
-      module _ (is : found ≡ blocks_hash_to (blocks_at l target.at) a.image (result_hash l (patching_of l).hashes)) where
-        pub bsdiff_skips : found ≡ true → stepped a Ended ≡ fill_step l xs hash (command.Bsdiff target n source) ready a
-        unfolding is_finished
-        bsdiff_skips f = fill_skips l xs hash (command.Bsdiff target n source) a none-ready (sym is ∙ f)
-
-        pub bsdiff_fills : found ≡ false → {b : Areas} {number : ℕ} {end : StepEnd} →
-            effect_of b number ≡ bsdiff_filled l xs hash target n source a → end ≡ fill_end number →
-            stepped b end ≡ fill_step l xs hash (command.Bsdiff target n source) ready a
-        unfolding is_finished filled
-        bsdiff_fills f e g = fill_fills l xs hash (command.Bsdiff target n source) a none-ready (sym is ∙ f) e g
-
-  -- `stash`, past the `start` blocks that are held
-  module _ (set : RangeSet) where
-    pub stash-writes : (ready ≡ 0 → ⊥) → {stash : List ℕ} {start : ℕ} → start ≡ blocks_held xs →
-        stash ≡ over a.stash (block_bytes * start) (take (block_bytes * set.blocks) a.work) →
-        stepped (with_stash a stash) Ended ≡ fill_step l xs hash (command.Stash set) ready a
-    unfolding written_from
-    stash-writes r h e = fill_writes_lem l xs hash (command.Stash set) a r (rw (e, h))
-
-    pub stash-fills : ready ≡ 0 → {b : Areas} {number : ℕ} {end : StepEnd} → effect_of b number ≡ stash_filled l hash set a →
-        end ≡ fill_end number → stepped b end ≡ fill_step l xs hash (command.Stash set) ready a
-    unfolding is_finished filled
-    stash-fills r e g = fill_fills l xs hash (command.Stash set) a r refl e g
+pub stash-writes : (l : List ℕ) (xs : List Stash) (hash : List ℕ) {ready : ℕ} (a : Areas) (set : RangeSet) → (ready ≡ 0 → ⊥) →
+    {stash : List ℕ} {start : ℕ} → start ≡ blocks_held xs →
+    stash ≡ over a.stash (block_bytes * start) (take (block_bytes * set.blocks) a.work) →
+    stepped (with_stash a stash) Ended ≡ fill_step l xs hash (command.Stash set) ready a
+unfolding fill_step written_from
+stash-writes l xs hash {ready} a set r h e = rw (ne_eqb ready 0 r, e, h)
 
 -- ---- a stretch of a `free`
 
-module _ (xs : List Stash) (k : ℕ) {f : Found} where
-  pub may_stretch : {j : ℕ} → f ≡ At j → either (eqb k 0) (found_stretch xs k f) ≡ true → MayStretch xs j k
+module _ (xs : List Stash) (k : ℕ) {f : Option ℕ} where
+  pub may_stretch : {j : ℕ} → f ≡ Some j → either (eqb k 0) (found_stretch xs k f) ≡ true → MayStretch xs j k
   unfolding found_stretch
-  may_stretch e h = subst (λ (g : Found). either (eqb k 0) (found_stretch xs k g) ≡ true) e h
-
-  pub frees_nothing : f ≡ Nothing → (a : Areas) → stepped a Passed ≡ free_step xs k a f
-  unfolding free_step
-  frees_nothing e a = rw e
+  may_stretch e h = subst (λ (g : Option ℕ). either (eqb k 0) (found_stretch xs k g) ≡ true) e h
 
 -- stash j of `gap` blocks starts at block `start`, of `all` blocks that are held
 module _ (xs : List Stash) (j k : ℕ) {start gap all : ℕ} (first : start ≡ stash_start xs j) (size : gap ≡ size_at xs j)
@@ -199,63 +129,13 @@ module _ (xs : List Stash) (j k : ℕ) {start gap all : ℕ} (first : start ≡ 
       rw (first, size, held)
       (blocks_held-before xs j, stretch_within xs j k h, keeps.blocks, (stretch_small xs j k stash keeps h).1)
 
-  pub frees_at : {f : Found} → f ≡ At j → (a : Areas) {stash : List ℕ} {blocks : ℕ} {end : StepEnd} →
+  pub frees_at : {f : Option ℕ} → f ≡ Some j → (a : Areas) {stash : List ℕ} {blocks : ℕ} {end : StepEnd} →
       blocks ≡ stretch_blocks gap (all - (start + gap)) k →
       stash ≡ moved_down a.stash (block_bytes * (start + k * gap)) (block_bytes * (start + k * gap + gap)) (block_bytes * blocks) →
       end ≡ pick (is_stretch gap (all - (start + gap)) (k + 1)) Stretched (pick (is_stretch gap (all - (start + gap)) k) Ended Passed) →
       stepped (with_stash a stash) end ≡ free_step xs k a f
   unfolding free_step stretched
   frees_at d a b e g = rw (d, g, e, b, first, size, held)
-
--- ---- the step of a command is that of its kind
-
-module _ (l : List ℕ) (xs : List Stash) (hash : List ℕ) {c : Command} (ready k : ℕ) (a : Areas) where
-  pub step-zero : {set : RangeSet} {image : List ℕ} → c ≡ command.Zero set → image ≡ zeroed (blocks_at l set.at) a.image →
-      stepped (with_image a image) Passed ≡ step_of l xs hash c ready k a
-  unfolding step_of
-  step-zero e h = rw (e, h)
-
-  pub step_erase : {set : RangeSet} {image : List ℕ} → c ≡ command.Erase set → image ≡ zeroed (blocks_at l set.at) a.image →
-      stepped (with_image a image) Passed ≡ step_of l xs hash c ready k a
-  unfolding step_of
-  step_erase e h = rw (e, h)
-
-  pub step_new : {set : RangeSet} → c ≡ command.New set → stepped a Passed ≡ step_of l xs hash c ready k a
-  unfolding step_of
-  step_new e = rw e
-
-  pub step_move : {target : RangeSet} {n : ℕ} {source : Source} {x : Stepped} → c ≡ command.Move target n source →
-      x ≡ fill_step l xs hash (command.Move target n source) ready a → x ≡ step_of l xs hash c ready k a
-  unfolding step_of
-  step_move e h = rw e h
-
-  pub step_bsdiff : {target : RangeSet} {n : ℕ} {source : Source} {x : Stepped} → c ≡ command.Bsdiff target n source →
-      x ≡ fill_step l xs hash (command.Bsdiff target n source) ready a → x ≡ step_of l xs hash c ready k a
-  unfolding step_of
-  step_bsdiff e h = rw e h
-
-  pub step-stash : {set : RangeSet} {x : Stepped} → c ≡ command.Stash set → x ≡ fill_step l xs hash (command.Stash set) ready a →
-      x ≡ step_of l xs hash c ready k a
-  unfolding step_of
-  step-stash e h = rw e h
-
-  pub step_free : {x : Stepped} → c ≡ command.Free → x ≡ free_step xs k a (find_in xs hash) → x ≡ step_of l xs hash c ready k a
-  unfolding step_of
-  step_free e h = rw e h
-
-  pub step-unsupported : c ≡ command.Unsupported → stepped a Passed ≡ step_of l xs hash c ready k a
-  unfolding step_of
-  step-unsupported e = rw e
-
-  pub step-bad : {p : ℕ} → c ≡ command.Bad p → stepped a Passed ≡ step_of l xs hash c ready k a
-  unfolding step_of
-  step-bad e = rw e
-
--- what a `free` rests on
-pub frees_on_lem : (xs : List Stash) (hash : List ℕ) (k : ℕ) {c : Command} → c ≡ command.Free → either (eqb k 0) (frees_on xs k hash c) ≡ true →
-    either (eqb k 0) (found_stretch xs k (find_in xs hash)) ≡ true
-unfolding frees_on
-frees_on_lem xs hash k e h = subst (λ (c : Command). either (eqb k 0) (frees_on xs k hash c) ≡ true) e h
 
 -- ---- a step is refused because a hash differs or a patch is malformed
 
@@ -274,13 +154,13 @@ filled-not number e = absurd (let z : ◌≡◌ {A = ℕ} 0 1 = cc in omega arit
 stretched-not : Refuses Stretched
 stretched-not number e = absurd (let z : ◌≡◌ {A = ℕ} 0 1 = cc in omega arith)
 
-free_step-refuses : (xs : List Stash) (k : ℕ) (a : Areas) (f : Found) → Refuses (free_step xs k a f).end
+free_step-refuses : (xs : List Stash) (k : ℕ) (a : Areas) (f : Option ℕ) → Refuses (free_step xs k a f).end
 unfolding free_step
-free_step-refuses xs k a (At j) =
+free_step-refuses xs k a (Some j) =
     picks Refuses (is_stretch (size_at xs j) (younger xs j) (k + 1)) _ _
     (λ e. stretched-not)
     (λ e. picks Refuses (is_stretch (size_at xs j) (younger xs j) k) _ _ (λ f. ended-not) (λ f. passed-not))
-free_step-refuses xs k a Nothing = passed-not
+free_step-refuses xs k a None = passed-not
 
 module _ (l : List ℕ) (xs : List Stash) (hash : List ℕ) where
   filling_refuses : (c : Command) (a : Areas) → Refuses (after_filling (filled l xs hash c a)).end

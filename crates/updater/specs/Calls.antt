@@ -3,7 +3,7 @@
 use Rattle.std.specs.Prelude.{ℕ, Bool, false, List, length, ◌==◌, nat_le}
 use Rattle.text.specs.Choice.{pick, both}
 use Rattle.state.specs.Refusals.{none, state_impossible}
-use Rattle.state.specs.States.{refusing, state_with}
+use Rattle.state.specs.States.{refusing}
 use Rattle.state.specs.declared.Lengths.{Lengths}
 use Rattle.state.specs.declared.Refusal.{Refusal}
 use Rattle.state.specs.declared.State.{State}
@@ -14,7 +14,6 @@ use Rattle.updater.specs.Steps.{Config}
 use Rattle.updater.specs.Run.{Reached, run_of}
 use Rattle.updater.specs.declared.Outcome.{Outcome}
 use Rattle.updater.specs.declared.Outcome.TheVariants as outcome
-use Rattle.updater.specs.declared.Advanced.{Advanced}
 use Rattle.updater.specs.declared.Called.{Called}
 
 -- done, more, or refused with number, line and byte
@@ -58,19 +57,24 @@ says least s piece p =
     (outcome.Refused (refusing state_impossible 0)))
     (outcome_of s p.state)
 
--- what a call gave back, with the tables of the stashes as it left them
-abbrev pub called_with : List ℕ → List ℕ → Advanced → Called
-called_with hashes sizes a = record { state = state_with hashes sizes a.progress; outcome = a.outcome; taken = a.taken }
+-- what a call left of the state, and what it gave back
+pub record Left : Type 0 where
+  pub state : State
+  pub outcome : Outcome
+  pub taken : ℕ
 
--- what a caller has after a call: the areas, and what the call gave back
-pub record Result : Type 0 where
+abbrev pub called_with : State → Called → Left
+called_with state c = record { state = state; outcome = c.outcome; taken = c.taken }
+
+-- what a caller has after a call: the areas, the state, and what the call gave back
+pub record CallResult : Type 0 where
   pub areas : Areas
-  pub called : Called
+  pub called : Left
 
-abbrev pub result_of : Areas → Called → Result
+abbrev pub result_of : Areas → Left → CallResult
 result_of areas called = record { areas = areas; called = called }
 
-unfoldable pub call_of : ℕ → List ℕ → List ℕ → Config → Result
+unfoldable pub call_of : ℕ → List ℕ → List ℕ → Config → CallResult
 call_of least s piece p =
     result_of (leaves least s piece p).areas
     (record { state = (leaves least s piece p).state; outcome = says least s piece p; taken = takes least s piece p })

@@ -2,15 +2,13 @@
 -- the lent areas, given the stashes that are held. The model goes by `effect`, a whole line; a call by its parts, `filled` and `written_from`
 -- (Steps.antt).
 -- Assumes nothing: these are definitions.
-use Rattle.std.specs.Prelude.{◌≡◌, ℕ, ◌*◌, Bool, false, ◌⊎◌, List, take, drop, ◌==◌}
+use Rattle.std.specs.Prelude.{◌≡◌, ℕ, ◌*◌, Bool, false, ◌⊎◌, List, take, drop, ◌==◌, Option, Some, None}
 use Rattle.text.specs.Choice.{pick}
 use Rattle.ranges.specs.Walk.{blocks_at}
 use Rattle.ranges.specs.declared.RangeSet.{RangeSet}
 use Rattle.state.specs.Limits.{block_bytes}
 use Rattle.state.specs.Refusals.{none, hash_differs, patch_malformed}
 use Rattle.state.specs.Stashes.{Stash, find_in, blocks_held}
-use Rattle.state.specs.declared.stashes.Found.{Found}
-use Rattle.state.specs.declared.stashes.Found.TheVariants.{At, Nothing}
 use Rattle.command.specs.declared.Command.{Command}
 use Rattle.command.specs.declared.Command.TheVariants as command
 use Rattle.command.specs.declared.source.Source.{Source}
@@ -123,9 +121,9 @@ written_from l held command.Free a = a
 written_from l held command.Unsupported a = a
 written_from l held (command.Bad p) a = a
 
-abbrev pub closed_found : List Stash → List ℕ → Found → List ℕ
-closed_found held stash (At j) = closed_up held j stash
-closed_found held stash Nothing = stash
+abbrev pub closed_found : List Stash → List ℕ → Option ℕ → List ℕ
+closed_found held stash (Some j) = closed_up held j stash
+closed_found held stash None = stash
 
 -- `free`: the younger stashes move down over the dropped one
 abbrev pub gap_closed : List Stash → List ℕ → Areas → Areas

@@ -3,12 +3,19 @@
 -- Assumes nothing: these are definitions.
 use Rattle.std.specs.Prelude.{◌≡◌, ℕ, ◌+◌, ◌*◌, ◌^◌, ◌<◌, ◌≤◌, true, List, length}
 use Rattle.ranges.specs.Ranges.{least_blocks}
-use Rattle.state.specs.Limits.{block_bytes, most_image_blocks, most_area_blocks, most_list_bytes, most_stashes}
+use Rattle.state.specs.Limits.{block_bytes, most_image_blocks, most_area_blocks, most_list_bytes, most_stashes, table_bytes}
 use Rattle.state.specs.Stashes.{Whole, table_of, held, blocks_held}
+use Rattle.state.specs.declared.State.{State}
 use Rattle.rules.specs.declared.Terms.{Terms}
 use Rattle.possible.specs.Possible.{can_be_stretched}
 use Rattle.updater.specs.Steps.{Config}
 use Rattle.updater.specs.Runnable.{blocks_in}
+
+-- what every value of the state's type has: tables of their lengths, and a total of 64 bits
+pub record Typed (state : State) : Type 0 where
+  pub hashes : length state.table.hashes ≡ table_bytes
+  pub sizes : length state.table.sizes ≡ most_stashes
+  pub total : state.total < 2 ^ 64
 
 pub record Fits (s : List ℕ) (terms : Terms) (p : Config) : Type 0 where
   pub list : length s ≤ most_list_bytes

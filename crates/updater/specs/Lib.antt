@@ -5,6 +5,5 @@ pub mod Effect
 pub mod Steps
 pub mod Run
 pub mod Calls
-pub mod Fills
 pub mod Runnable
 pub mod Fits

@@ -4,6 +4,7 @@
 use Rattle.std.specs.Prelude.{ℕ, ◌+◌, ◌-◌, ◌*◌, Bool, List, [], length, set, ◌==◌, nat_le, nat_lt}
 use Rattle.text.specs.Choice.{pick, both, either, no}
 use Rattle.text.specs.Line.{line_at}
+use Rattle.text.specs.Read.{on_option}
 use Rattle.ranges.specs.Walk.{blocks_at}
 use Rattle.state.specs.Limits.{block_bytes, most_area_blocks}
 use Rattle.state.specs.Refusals.{none}
@@ -11,7 +12,7 @@ use Rattle.state.specs.Stashes.{held}
 use Rattle.state.specs.States.{is_ready}
 use Rattle.command.specs.Commands.{command_of}
 use Rattle.command.specs.Faults.{fault_byte}
-use Rattle.command.specs.Targets.{new_target, on_new_target}
+use Rattle.command.specs.Targets.{new_target}
 use Rattle.command.specs.declared.Command.{Command}
 use Rattle.rules.specs.Rules.{refusal_of}
 use Rattle.rules.specs.declared.Terms.{Terms}
@@ -54,11 +55,11 @@ halts_at least s terms p =
 
 -- the blocks that new data goes to: those of a `new`'s target
 unfoldable pub new_blocks : List ℕ → Command → List ℕ
-new_blocks l c = on_new_target (new_target c) (λ set. blocks_at l set.at) []
+new_blocks l c = on_option (new_target c) (λ set. blocks_at l set.at) []
 
 -- the bytes of new data that a command takes
 unfoldable pub new_bytes : Command → ℕ
-new_bytes c = on_new_target (new_target c) (λ set. block_bytes * set.blocks) 0
+new_bytes c = on_option (new_target c) (λ set. block_bytes * set.blocks) 0
 
 -- a byte of new data goes to the byte of R that is next
 unfoldable pub put_byte : ℕ → List ℕ → ℕ → Config → Config

@@ -1,13 +1,11 @@
 -- What the code of a command rests on: its blocks lie within the areas and its sizes agree. A line that is not refused has it
 -- (proofs/RunnableLaws.antt). No reader of the rules needs this page.
 -- Assumes nothing: these are definitions.
-use Rattle.std.specs.Prelude.{◌≡◌, ℕ, ◌+◌, ◌*◌, ◌/◌, ◌≤◌, List, [], ◌∷◌, length}
+use Rattle.std.specs.Prelude.{◌≡◌, ℕ, ◌+◌, ◌*◌, ◌/◌, ◌≤◌, List, [], ◌∷◌, length, Option, Some, None}
 use Rattle.ranges.specs.Walk.{blocks_at, AllBelow}
 use Rattle.ranges.specs.declared.RangeSet.{RangeSet}
 use Rattle.state.specs.Limits.{block_bytes, most_area_blocks}
 use Rattle.state.specs.Stashes.{Stash, find_in, size_at, blocks_held}
-use Rattle.state.specs.declared.stashes.Found.{Found}
-use Rattle.state.specs.declared.stashes.Found.TheVariants.{At, Nothing}
 use Rattle.command.specs.Parts.{StashUse, uses_at}
 use Rattle.command.specs.declared.Command.{Command}
 use Rattle.command.specs.declared.Command.TheVariants as command
@@ -27,9 +25,9 @@ pub record Keeps (stashes : List Stash) (stash : List ℕ) : Type 0 where
   pub room : block_bytes * blocks_held stashes ≤ length stash
 
 -- as many blocks as the found stash has
-abbrev pub FoundSize : List Stash → ℕ → Found → Type 0
-FoundSize stashes n (At j) = size_at stashes j ≡ n
-FoundSize stashes n Nothing = ⊥
+abbrev pub FoundSize : List Stash → ℕ → Option ℕ → Type 0
+FoundSize stashes n (Some j) = size_at stashes j ≡ n
+FoundSize stashes n None = ⊥
 
 -- a stash that is held, of as many blocks as its places, which are all below n
 pub record Spread (l : List ℕ) (stashes : List Stash) (n : ℕ) (named : StashUse) : Type 0 where

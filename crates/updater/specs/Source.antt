@@ -1,22 +1,20 @@
 -- Document 01, "Putting a source together" and "The stash area", and document 02, R-8: what blocks hash to, and R-9: a `free` in stretches.
 -- Assumes nothing: these are definitions.
-use Rattle.std.specs.Prelude.{ℕ, ◌+◌, ◌*◌, Bool, List, [], ◌∷◌, take, drop}
+use Rattle.std.specs.Prelude.{ℕ, ◌+◌, ◌*◌, Bool, List, [], ◌∷◌, take, drop, Option, Some, None}
 use Rattle.sha1_digest.specs.Sha1.{sha1}
 use Rattle.ranges.specs.Ranges.{span}
 use Rattle.ranges.specs.Walk.{blocks_at}
 use Rattle.state.specs.Limits.{block_bytes}
 use Rattle.state.specs.Stashes.{Stash, same, find_in, size_at, stash_start, younger}
 use Rattle.state.specs.Stretches.{stretch_blocks}
-use Rattle.state.specs.declared.stashes.Found.{Found}
-use Rattle.state.specs.declared.stashes.Found.TheVariants.{At, Nothing}
 use Rattle.command.specs.Parts.{StashUse, uses_at}
 use Rattle.command.specs.declared.source.Source.{Source}
 use Rattle.command.specs.declared.source.Source.TheVariants.{Blocks, Stashes, Both}
 use Rattle.updater.specs.Bytes.{gathered, written, moved_down}
 
-abbrev pub found_bytes : List Stash → List ℕ → Found → List ℕ
-found_bytes held stash (At j) = take (block_bytes * size_at held j) (drop (block_bytes * stash_start held j) stash)
-found_bytes held stash Nothing = []
+abbrev pub found_bytes : List Stash → List ℕ → Option ℕ → List ℕ
+found_bytes held stash (Some j) = take (block_bytes * size_at held j) (drop (block_bytes * stash_start held j) stash)
+found_bytes held stash None = []
 
 -- the whole stash of a hash
 unfoldable pub stash_bytes : List Stash → List ℕ → List ℕ → List ℕ

@@ -1,15 +1,13 @@
 -- Document 01, "Calls", and document 02, R-9: the lent areas and the state together, and what each step of a command leaves of them. A run
 -- stops, for saving, between filling an area and writing from it, after every `move`, `stash` and `bsdiff`, and after each stretch of a `free`.
 -- Assumes nothing: these are definitions.
-use Rattle.std.specs.Prelude.{ℕ, ◌+◌, ◌%◌, ◌^◌, Bool, true, false, List, length, ◌==◌}
+use Rattle.std.specs.Prelude.{ℕ, ◌+◌, ◌%◌, ◌^◌, Bool, true, false, List, length, ◌==◌, Option, Some, None}
 use Rattle.text.specs.Choice.{pick}
 use Rattle.state.specs.Refusals.{none}
 use Rattle.state.specs.Stashes.{Stash, held, table_of, find_in, size_at, younger}
 use Rattle.state.specs.States.{refusing_at, line_start, with_table, with_cursor, with_refusal, is_ready}
 use Rattle.state.specs.Stretches.{is_stretch}
 use Rattle.state.specs.declared.State.{State}
-use Rattle.state.specs.declared.stashes.Found.{Found}
-use Rattle.state.specs.declared.stashes.Found.TheVariants.{At, Nothing}
 use Rattle.command.specs.declared.Command.{Command}
 use Rattle.command.specs.declared.Command.TheVariants as command
 use Rattle.rules.specs.Held.{table_after}
@@ -84,9 +82,9 @@ free_end held j k =
     (pick (is_stretch (size_at held j) (younger held j) k) Ended Passed)
 
 -- `free`: the next stretch, k having gone before it
-unfoldable pub free_step : List Stash → ℕ → Areas → Found → Stepped
-free_step held k a (At j) = stepped (with_stash a (stretched held j k a.stash)) (free_end held j k)
-free_step held k a Nothing = stepped a Passed
+unfoldable pub free_step : List Stash → ℕ → Areas → Option ℕ → Stepped
+free_step held k a (Some j) = stepped (with_stash a (stretched held j k a.stash)) (free_end held j k)
+free_step held k a None = stepped a Passed
 
 -- a command's next step, on the line l
 unfoldable pub step_of : List ℕ → List Stash → List ℕ → Command → ℕ → ℕ → Areas → Stepped

@@ -1,18 +1,18 @@
 // Running an opened list over a lent image.
 #![tactic(auto)]
 
-ghost use Rattle.std.specs.Prelude.{◌≡◌};
+ghost use Rattle.std.specs.Prelude.{◌≡◌, ◌^◌, ◌<◌};
 ghost use Rattle.ranges.specs.Ranges.{least_blocks};
-ghost use Rattle.state.specs.States.{state_with};
 ghost use Rattle.updater.specs.Areas.{areas_of};
-ghost use Rattle.updater.specs.Calls.{outcome_at, called_with, result_of, call_of};
+ghost use Rattle.updater.specs.Calls.{outcome_of, called_with, result_of, call_of};
 ghost use Rattle.updater.specs.Steps.{config_of};
+ghost use Rattle.updater.specs.Fits.{Typed};
+ghost use Rattle.updater.specs.declared.Outcome.TheVariants as outcome;
 
 use crate::run::run_lines;
 use possible::{is_possible, terms_for};
-use state::limits::{MOST_STASHES, TABLE_BYTES};
-use state::refusals::STATE_IMPOSSIBLE;
-use state::{Lengths, Progress, Refusal, State};
+use state::refusals::{Reason, Refused};
+use state::{Lengths, Refusal, State};
 
 mod areas;
 mod bsdiff;
@@ -32,38 +32,56 @@ pub enum Outcome {
     Refused(Refusal),
 }
 
-// What a call gives back.
+// What a call gives back: how it came out, and the bytes of the piece that it took.
 #[derive(Clone, Copy)]
 pub struct Called {
-    pub state: State,
     pub outcome: Outcome,
     pub taken: usize,
 }
 
-// What a run says that was left at a position of a list of that length, with that refusal.
-fn outcome_at(list: usize, at: usize, refusal: Refusal) -> Outcome
-    ensures { result ≡ outcome_at list at refusal }
-{
-    if refusal.number != 0 {
-        return Outcome::Refused(refusal);
+impl Called {
+    // Refused before the first byte.
+    fn refused(refusal: Refusal) -> Called
+        ensures outcome { result.outcome ≡ outcome.Refused refusal }
+        ensures taken { result.taken ≡ 0 }
+    {
+        Called {
+            outcome: Outcome::Refused(refusal),
+            taken: 0,
+        }
     }
-    if list <= at {
+}
+
+// What a run says that did not stop for saving and was left in this state.
+#[tactic(auto, unfolding(crate::specs::Calls::outcome_at))]
+fn outcome_of(list: &[u8], state: &State) -> Outcome
+    ensures { result ≡ outcome_of list.now state.now }
+{
+    if state.refusal.number != 0 {
+        return Outcome::Refused(state.refusal);
+    }
+    if list.len() <= state.at {
         return Outcome::Done;
     }
     Outcome::More
 }
 
-// What a call gives back besides the tables of the stashes.
-#[derive(Clone, Copy)]
-pub struct Advanced {
-    pub progress: Progress,
-    pub outcome: Outcome,
-    pub taken: usize,
+// A number of 64 bits.
+fn fits(n: usize)
+    ensures { n < 2 ^ 64 }
+{}
+
+// For proofs alone: what the type of a state says of it. As slices the tables have lengths that are known.
+pub fn typed(state: &State)
+    ensures { Typed state.now }
+{
+    let hashes = &state.table.hashes[..];
+    let sizes = &state.table.sizes[..];
+    fits(state.total);
 }
 
-// One call: runs the lines of the list from the state on, with one piece of new data. The tables of the stashes are read and written where
-// they lie.
-pub fn call_in_place(
+// One call: runs the lines of the list from the state on, with one piece of new data. The state is left as the run left it.
+pub fn call(
     list: &[u8],
     image: &mut [u8],
     stash: &mut [u8],
@@ -71,19 +89,13 @@ pub fn call_in_place(
     res: &mut [u8],
     patch: &[u8],
     piece: &[u8],
-    hashes: &mut [u8; TABLE_BYTES],
-    sizes: &mut [usize; MOST_STASHES],
-    progress: Progress,
-) -> Advanced
-    ensures { result_of (areas_of image.new stash.new work.new res.new patch.now) (called_with hashes.new sizes.new result) ≡ call_of least_blocks list.now piece.now (config_of (areas_of image.old stash.old work.old res.old patch.now) (state_with hashes.old sizes.old progress)) }
+    state: &mut State,
+) -> Called
+    ensures { result_of (areas_of image.new stash.new work.new res.new patch.now) (called_with state.new result) ≡ call_of least_blocks list.now piece.now (config_of (areas_of image.old stash.old work.old res.old patch.now) state.old) }
 {
-    let held = progress.refusal;
+    let held = state.refusal;
     if held.number != 0 {
-        return Advanced {
-            progress,
-            outcome: Outcome::Refused(held),
-            taken: 0,
-        };
+        return Called::refused(held);
     }
     let lengths = Lengths {
         list: list.len(),
@@ -93,99 +105,24 @@ pub fn call_in_place(
         result: res.len(),
         patch: patch.len(),
     };
-    if !is_possible(list, lengths, &*hashes, &*sizes, progress) {
-        return Advanced {
-            progress,
-            outcome: Outcome::Refused(Refusal {
-                number: STATE_IMPOSSIBLE,
-                line: 0,
-                byte: 0,
-            }),
-            taken: 0,
+    if !is_possible(list, lengths, &*state) {
+        let refused = Refused {
+            reason: Reason::StateImpossible,
+            line: 0,
+            byte: 0,
         };
+        return Called::refused(refused.refusal());
     }
-    // For the proof alone: as slices the tables have lengths that are known.
-    let table = &hashes[..];
-    let blocks = &sizes[..];
+    typed(&*state);
     let terms = terms_for(list, lengths);
-    let ran = run_lines(
-        list, image, stash, work, res, patch, piece, terms, hashes, sizes, progress,
-    );
-    let last = ran.progress;
-    if ran.stop {
-        return Advanced {
-            progress: last,
-            outcome: Outcome::Stop,
-            taken: ran.taken,
-        };
-    }
-    let refusal = last.refusal;
-    let outcome = outcome_at(list.len(), last.at, refusal);
-    Advanced {
-        progress: last,
+    let ran = run_lines(list, image, stash, work, res, patch, piece, terms, state);
+    let outcome = if ran.stop {
+        Outcome::Stop
+    } else {
+        outcome_of(list, &*state)
+    };
+    Called {
         outcome,
         taken: ran.taken,
-    }
-}
-
-// The same with the state by value.
-pub fn call(
-    list: &[u8],
-    image: &mut [u8],
-    stash: &mut [u8],
-    work: &mut [u8],
-    res: &mut [u8],
-    patch: &[u8],
-    piece: &[u8],
-    state: State,
-) -> Called
-    ensures { result_of (areas_of image.new stash.new work.new res.new patch.now) result ≡ call_of least_blocks list.now piece.now (config_of (areas_of image.old stash.old work.old res.old patch.now) state) }
-{
-    let mut hashes = state.hashes;
-    let mut sizes = state.sizes;
-    let refusal = state.refusal;
-    let lengths = state.lengths;
-    let advanced = call_in_place(
-        list,
-        image,
-        stash,
-        work,
-        res,
-        patch,
-        piece,
-        &mut hashes,
-        &mut sizes,
-        Progress {
-            count: state.count,
-            line: state.line,
-            at: state.at,
-            into: state.into,
-            total: state.total,
-            ready: state.ready,
-            stretches: state.stretches,
-            refusal,
-            lengths,
-        },
-    );
-    let last = advanced.progress;
-    let outcome = advanced.outcome;
-    let kept = last.refusal;
-    let opened = last.lengths;
-    Called {
-        state: State {
-            hashes,
-            sizes,
-            count: last.count,
-            line: last.line,
-            at: last.at,
-            into: last.into,
-            total: last.total,
-            ready: last.ready,
-            stretches: last.stretches,
-            refusal: kept,
-            lengths: opened,
-        },
-        outcome,
-        taken: advanced.taken,
     }
 }

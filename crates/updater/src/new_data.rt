@@ -4,9 +4,9 @@ ghost use Rattle.ranges.specs.Walk.{blocks_at, AllBelow};
 ghost use Rattle.state.specs.Limits.{block_bytes};
 ghost use Rattle.updater.specs.Bytes.{put_bytes};
 
-use ranges::{LEAST_AGAIN, Pair, read_pair};
+use ranges::{LEAST_AGAIN, read_pair};
 use state::limits::BLOCK_BYTES;
-use text::number::{Number, read_number};
+use text::number::read_number;
 
 // The piece's bytes from `from` on go to the target's bytes from its byte `into` on, until one of them ends. Gives where the piece was
 // left.
@@ -24,38 +24,29 @@ pub(crate) fn take_new(
 {
     let mut i = from;
     let mut skip = into;
-    let Number::Good(count, first) = read_number(l, at) else {
+    let Ok((count, first)) = read_number(l, at) else {
         return i;
     };
-    let mut left = count / 2;
     let mut next = first;
-    'ranges: while 0 < left {
-        let Pair::Good {
-            start,
-            end,
-            next: past,
-        } = read_pair(l, next, LEAST_AGAIN)
-        else {
+    'ranges: for _ in 0..count / 2 {
+        let Ok(((start, end), past)) = read_pair(l, next, LEAST_AGAIN) else {
             return i;
         };
         let size = BLOCK_BYTES * (end - start) as usize;
         if skip < size {
             let base = BLOCK_BYTES * start as usize;
-            let mut k = skip;
-            while k < size {
+            for byte in &mut image[base + skip..base + size] {
                 if i == piece.len() {
                     break 'ranges;
                 }
-                image[base + k] = piece[i];
+                *byte = piece[i];
                 i += 1;
-                k += 1;
             }
             skip = 0;
         } else {
             skip -= size;
         }
         next = past;
-        left -= 1;
     }
     i
 }

@@ -1,95 +1,89 @@
 -- `ranges::read_ranges` meets its contract.
 use mathlib.Core.Path.{◌≡◌, refl, sym, ◌∙◌}
 use mathlib.Core.List.{List}
-use Prim.Native.Nat.{ℕ, zero, suc, ◌+◌, ◌-◌, ◌/◌, ◌<◌, max}
-use native.Mathlib.Numerals.{sub-one}
+use Prim.Native.Nat.{ℕ, suc, ◌+◌, ◌-◌, ◌/◌, max}
 use native.Mathlib.Omega.{arith}
 use Rattle.text.specs.Number.{number_for}
 use Rattle.text.specs.declared.number.Need.TheVariants as variants
-use Rattle.text.specs.declared.number.Number.{Number}
-use Rattle.text.specs.declared.number.Number.TheVariants as number
-use Rattle.ranges.specs.declared.Pair.TheVariants as pair
-use Rattle.ranges.specs.declared.Ranges.{Ranges}
-use Rattle.ranges.specs.declared.Ranges.TheVariants as ranges
-use Rattle.ranges.specs.Ranges.{Range, pair_at, Parsed, ok, fault, follow, pairs_at, set_at, size_of, end_of, summary, ranges_at}
-use Rattle.ranges.proofs.RangesLaws.{pair_order}
+use Rattle.ranges.specs.Ranges.{Range, pair_at, follow, pairs_at, set_at, size_of, end_of, summary, ranges_at}
+use Rattle.ranges.proofs.RangesLaws.{pair_order, pair_most}
 use Rattle.ranges.proofs.read_ranges.Invariants.{summary_from}
 use Rattle.ranges.proofs.read_ranges.Goals as goal
-use Rattle.ranges.proofs.read_ranges.Goals.{then-last-end, else-last-end}
+use Rattle.std.proofs.Common.{rules}
+use Rattle.std.specs.Prelude.{Ok, Err}
+use Rattle.text.specs.Read.{Read}
+use Rattle.ranges.specs.declared.RangeSet.{RangeSet}
 
 good : (at next : ℕ) {a b l m : ℕ} → a ≡ b → l ≡ m →
-    ranges.Good (record { at = at; blocks = a; end = l }) next ≡ ranges.Good (record { at = at; blocks = b; end = m }) next
+    ◌≡◌ {A = Read RangeSet} (Ok (record { at = at; blocks = a; end = l }, next)) (Ok (record { at = at; blocks = b; end = m }, next))
 good at next p q = cc
 
-from_start : (at : ℕ) (q : Parsed) → summary_from at 0 0 q ≡ summary at q
+from_start : (at : ℕ) (q : Read (List Range)) → summary_from at 0 0 q ≡ summary at q
 unfolding summary_from summary
-from_start at (ok rs next) = good at next (omega arith) (omega arith)
-from_start at (fault p) = refl
+from_start at (Ok (rs, next)) = good at next (omega arith) (omega arith)
+from_start at (Err p) = refl
 
-from-follow : (at blocks last : ℕ) (r : Range) (q : Parsed) →
+from-follow : (at blocks last : ℕ) (r : Range) (q : Read (List Range)) →
     summary_from at blocks last (follow r q) ≡ summary_from at (blocks + (r.end - r.start)) (max last r.end) q
 unfolding summary_from size_of end_of
-from-follow at blocks last r (ok rs next) = good at next (omega arith) (omega arith)
-from-follow at blocks last r (fault p) = refl
+from-follow at blocks last r (Ok (rs, next)) = good at next (omega arith) (omega arith)
+from-follow at blocks last r (Err p) = refl
 
 -- before the loop
 module _ (least : ℕ) (s : List ℕ) (at : ℕ) where
-  count-bad : {m : Number} {p : ℕ} {a : Ranges} → m ≡ number_for variants.Count s at → m ≡ number.Bad p → a ≡ ranges.Bad p → a ≡ ranges_at least s at
+  count-bad : {p : ℕ} → number_for variants.Count s at ≡ Err p → ranges_at least s at ≡ Err p
   unfolding ranges_at set_at summary
-  count-bad e f h = rw (sym e ∙ f) h
+  count-bad e = rw e
 
-  turn-start : {count from : ℕ} → number_for variants.Count s at ≡ number.Good count from →
+  turn-start : {count from : ℕ} → number_for variants.Count s at ≡ Ok (count, from) →
       summary_from at 0 0 (pairs_at least (count / 2) s from) ≡ ranges_at least s at
   unfolding ranges_at set_at
   turn-start {count} {from} e = rw e (from_start at (pairs_at least (count / 2) s from))
 
 -- one turn of the loop
 module _ (least : ℕ) (s : List ℕ) (i n at blocks last : ℕ) where
-  turn_end : n ≡ 0 → summary_from at blocks last (pairs_at least n s i) ≡ ranges.Good (record { at = at; blocks = blocks; end = last }) i
+  turn_end : n ≡ 0 → summary_from at blocks last (pairs_at least n s i) ≡ Ok (record { at = at; blocks = blocks; end = last }, i)
   unfolding summary_from pairs_at size_of end_of
   turn_end z = rw z (good at i (omega arith) (omega arith))
 
-  module _ (h : 0 < n) where
-    turn-bad : {p : ℕ} → pair_at least s i ≡ pair.Bad p → summary_from at blocks last (pairs_at least n s i) ≡ ranges.Bad p
+  module _ (m : ℕ) (h : n ≡ suc m) where
+    turn-bad : {p : ℕ} → pair_at least s i ≡ Err p → summary_from at blocks last (pairs_at least n s i) ≡ Err p
     unfolding summary_from pairs_at
-    turn-bad {p} e = go n h
-      where
-        go : (n : ℕ) → 0 < n → summary_from at blocks last (pairs_at least n s i) ≡ ranges.Bad p
-        go zero l = absurd (omega arith)
-        go (suc n) l = rw e
+    turn-bad e = rw (h, e)
 
-    turn_more : {start end next : ℕ} → pair_at least s i ≡ pair.Good start end next →
-        summary_from at blocks last (pairs_at least n s i) ≡ summary_from at (blocks + (end - start)) (max last end) (pairs_at least (n - 1) s next)
+    turn_more : {start end next : ℕ} → pair_at least s i ≡ Ok ((start, end), next) →
+        summary_from at blocks last (pairs_at least n s i) ≡ summary_from at (blocks + (end - start)) (max last end) (pairs_at least m s next)
     unfolding pairs_at
-    turn_more {start} {end} {next} e = go n h
-      where
-        go : (n : ℕ) → 0 < n →
-            summary_from at blocks last (pairs_at least n s i) ≡ summary_from at (blocks + (end - start)) (max last end) (pairs_at least (n - 1) s next)
-        go zero l = absurd (omega arith)
-        go (suc n) l = rw (e, sub-one (suc n)) (from-follow at blocks last (record { start = start; end = end }) (pairs_at least n s next))
+    turn_more {start} {end} {next} e = rw (h, e) (from-follow at blocks last (record { start = start; end = end }) (pairs_at least m s next))
 
-pub loop-left-init : goal.loop-left-init
-loop-left-init c = (omega arith, turn-start _ _ _ (sym c.read_number_for.ensures ∙ c.in-Good.is))
+pub returns-in_err-count : goal.returns-in_err-count
+returns-in_err-count c = rw (count-bad _ _ _ (sym c.read_number_for.ensures ∙ c.in_err-count.was)) (search rules)
 
-pub returns-in-Bad-read_pair : goal.returns-in-Bad-read_pair
-returns-in-Bad-read_pair c =
-    sym (turn-bad _ _ _ _ _ _ _ (omega arith) (sym c.read_pair.ensures ∙ c.in-Bad-read_pair.is))
-    ∙ c.loop-left.invariant.1
+pub loop-init : goal.loop-init
+loop-init c =
+    let n : c.in_ok-count.count / 2 - 0 ≡ c.in_ok-count.count / 2 = omega arith in
+    (omega arith, rw n (turn-start _ _ _ (sym c.read_number_for.ensures ∙ c.in_ok-count.was)))
+
+pub returns-in_err-start : goal.returns-in_err-start
+returns-in_err-start c =
+    let a = c.args in
+    let l = c.loop in
+    let n = c.in_ok-count.count / 2 - l.counter in
+    let e : ranges_at a.least a.s.now a.at ≡ Err c.in_err-start.field-0.0 =
+    sym l.invariant.1 ∙ turn-bad _ _ _ n _ _ _ (n - 1) (omega arith) (sym c.read_pair.ensures ∙ c.in_err-start.was) in
+    rw e (search rules)
 
 pub overflow_sub-blocks : goal.overflow_sub-blocks
-overflow_sub-blocks c = pair_order _ _ _ (sym c.read_pair.ensures ∙ c.in-Good-read_pair.is)
+overflow_sub-blocks c = pair_order _ _ _ (sym c.read_pair.ensures ∙ c.in_ok-start.was)
 
-pub loop-left-preserved : goal.loop-left-preserved
-loop-left-preserved c =
-    let l = c.loop-left in
-    let m : c.if-last-end.last ≡ max l.last c.in-Good-read_pair.end =
-    elim c.if-last-end.branch [ then-last-end w ↦ omega arith | else-last-end w ↦ omega arith ] in (
+pub loop-preserved : goal.loop-preserved
+loop-preserved c =
+    let l = c.loop in
+    let e = sym c.read_pair.ensures ∙ c.in_ok-start.was in
+    let m = pair_most _ _ _ e in (
       omega arith,
-      rw m (sym (turn_more _ _ _ _ _ _ _ (omega arith) (sym c.read_pair.ensures ∙ c.in-Good-read_pair.is)) ∙ l.invariant.1),
+      rw c.max-last.ensures (sym (turn_more _ _ _ _ _ _ _ _ (omega arith) e) ∙ l.invariant.1),
     )
 
-pub returns-in-Bad : goal.returns-in-Bad
-returns-in-Bad c = search count-bad
-
-pub returns-after-loop-left : goal.returns-after-loop-left
-returns-after-loop-left c = sym (turn_end _ _ _ _ _ _ _ (omega arith)) ∙ c.loop-left.invariant.1
+pub returns : goal.returns
+returns c = sym (turn_end _ _ _ _ _ _ _ (omega arith)) ∙ c.loop.invariant.1

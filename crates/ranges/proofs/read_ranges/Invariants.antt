@@ -1,21 +1,21 @@
 -- The loop's invariant: what is left to read, after the blocks and the largest end so far, gives the whole answer; and
--- the blocks leave room for as many pairs as are left. The measure is how many are left.
+-- each range has at most `largest` blocks.
 use mathlib.Core.Path.{◌≡◌}
-use Prim.Native.Nat.{ℕ, ◌+◌, ◌*◌, ◌/◌, ◌≤◌, max}
+use mathlib.Core.List.{List}
+use Prim.Native.Nat.{ℕ, ◌+◌, ◌-◌, ◌*◌, ◌/◌, ◌≤◌, max}
 use Rattle.text.specs.Number.{largest}
-use Rattle.ranges.specs.declared.Ranges.{Ranges}
-use Rattle.ranges.specs.declared.Ranges.TheVariants as ranges
-use Rattle.ranges.specs.Ranges.{Parsed, ok, fault, pairs_at, size_of, end_of, ranges_at}
+use Rattle.ranges.specs.Ranges.{pairs_at, size_of, end_of, ranges_at}
 use Rattle.ranges.proofs.read_ranges.Given as goal
+use Rattle.std.specs.Prelude.{Ok, Err}
+use Rattle.text.specs.Read.{Read}
+use Rattle.ranges.specs.declared.RangeSet.{RangeSet}
+use Rattle.ranges.specs.Ranges.{Range}
 
 -- the summary of what is left, after some blocks and the largest end `last`
-unfoldable pub summary_from : ℕ → ℕ → ℕ → Parsed → Ranges
-summary_from at blocks last (ok rs next) = ranges.Good (record { at = at; blocks = blocks + size_of rs; end = max last (end_of rs) }) next
-summary_from at blocks last (fault p) = ranges.Bad p
+unfoldable pub summary_from : ℕ → ℕ → ℕ → Read (List Range) → Read RangeSet
+summary_from at blocks last (Ok (rs, next)) = Ok (record { at = at; blocks = blocks + size_of rs; end = max last (end_of rs) }, next)
+summary_from at blocks last (Err p) = Err p
 
-abbrev pub invariant-loop-left : goal.invariant-loop-left
-invariant-loop-left l = (l.blocks + l.left * largest ≤ (l.count / 2) * largest)
-    × (summary_from l.at l.blocks l.last (pairs_at l.least l.left l.s l.i) ≡ ranges_at l.least l.s l.at)
-
-abbrev pub decreases-loop-left : goal.decreases-loop-left
-decreases-loop-left l = l.left
+abbrev pub invariant-loop : goal.invariant-loop
+invariant-loop l = (l.blocks ≤ l.counter * largest)
+    × (summary_from l.at l.blocks l.last (pairs_at l.least (l.count / 2 - l.counter) l.s l.i) ≡ ranges_at l.least l.s l.at)

@@ -1,7 +1,6 @@
 -- `save_in_place` meets its contract: the five records stand one after the other, and what they were made of is of its
 -- type.
 use borrow.Author.Rules.{rules}
-use Rattle.state.specs.States.{state_with}
 use Rattle.saved.proofs.PutLaws.{saved-put}
 use Rattle.saved.proofs.save_in_place.Goals as goal
 
@@ -20,7 +19,7 @@ returns c =
             lengths = c.put_numbers-4.ensures.all_below;
           };
       form =
-          saved-put (state_with a.hashes.now a.sizes.now a.progress) a.to.now
+          saved-put a.state.now a.to.now
           c.put_hashes.new.to c.put_numbers.new.to c.put_numbers-2.new.to c.put_numbers-3.new.to c.put_numbers-4.new.to
           (search rules) (search rules) (search rules)
           c.put_hashes.ensures.to_after c.put_numbers.ensures.to_after c.put_numbers-2.ensures.to_after c.put_numbers-3.ensures.to_after

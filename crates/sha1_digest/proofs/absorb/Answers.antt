@@ -6,4 +6,4 @@ use Rattle.sha1_digest.proofs.absorb.Goals as goal
 pub returns : goal.returns
 returns c =
     let a = c.args in
-    rw (c.hash.ensures, c.wrapping_add_u64.ensures.value) (sym (absorbed-is a.h a.s.now))
+    rw c.hash.ensures (sym (absorbed-is a.h a.s.now))

@@ -4,4 +4,4 @@ use Rattle.sha1_digest.specs.Pieces.{started-is}
 use Rattle.sha1_digest.proofs.start.Goals as goal
 
 pub returns : goal.returns
-returns c = rw c.initial.ensures (sym started-is)
+returns c = sym started-is

@@ -11,21 +11,20 @@ use Rattle.text.proofs.LineLaws.{line_some, line-within}
 use Rattle.ranges.specs.Ranges.{least_blocks}
 use Rattle.state.specs.Limits.{most_stashes, table_bytes}
 use Rattle.state.specs.Refusals.{none, total_differs}
-use Rattle.state.specs.Stashes.{Table, empty_table, held_in}
+use Rattle.state.specs.declared.stashes.Table.{Table}
+use Rattle.state.specs.Stashes.{empty_table, held_in}
 use Rattle.state.specs.States.{refusing, refusing_at, no_refusal}
 use Rattle.state.specs.Sums.{bound, bounded}
+use Rattle.state.proofs.ReasonLaws.{number-some, number-none, number-refused}
 use Rattle.state.proofs.TableLaws.{none-held}
 use Rattle.command.specs.Commands.{command_of}
 use Rattle.command.specs.Faults.{fault_of, fault_byte}
-use Rattle.command.specs.declared.faults.Fault.{Fault}
-use Rattle.command.specs.declared.faults.Fault.TheVariants as fault
 use Rattle.command.specs.declared.Command.TheVariants.{Bad}
 use Rattle.command.proofs.CommandLaws.{command-hash}
 use Rattle.command.proofs.FaultLaws.{byte_at, byte-none, fault-bad}
 use Rattle.faults.proofs.Faults.{fault-within}
 use Rattle.rules.specs.Held.{held_after, table_after}
-use Rattle.rules.specs.Rules.{refusal_of, checked_of}
-use Rattle.rules.specs.declared.Checked.{Checked}
+use Rattle.rules.specs.Rules.{CheckedLine, refusal_of, checked_of}
 use Rattle.rules.specs.declared.Terms.{Terms}
 use Rattle.rules.proofs.HeldLaws.{held_after_lem, table-whole}
 use Rattle.transfer_list.specs.Header.{first_line}
@@ -34,6 +33,7 @@ use Rattle.transfer_list.specs.declared.header.Header.{Header}
 use Rattle.transfer_list.proofs.OpeningLaws.{lines_end, lines-refused, lines-go-on}
 use Rattle.transfer_list.proofs.check_lines.Invariants.{Checking, whole}
 use Rattle.transfer_list.proofs.check_lines.Goals as goal
+use Rattle.std.specs.Prelude.{Option, Some}
 
 -- a line that was read has a byte or more, and ends within the text
 length-is : (list : List ℕ) {at : ℕ} {l : List ℕ} → at < length list → l ≡ line_at list at → (0 < length l) × (at + length l ≤ length list)
@@ -53,17 +53,17 @@ module _ {list : List ℕ} {terms : Terms} {h : Header} {t : Table} {line at cou
     unfolding total_refusal
     none-refused e = rw (eq-eqb v.total h.total (omega (arith, v.sum))) at ended
 
-  module _ {l : List ℕ} {k : Checked} (w : at < length list) (e : l ≡ line_at list at) (f : k ≡ checked_of least_blocks l terms (held_in t)) where
+  module _ {l : List ℕ} {k : CheckedLine} (w : at < length list) (e : l ≡ line_at list at) (f : k ≡ checked_of least_blocks l terms (held_in t)) where
     left : 0 < v.n
     left = omega (arith, v.enough)
 
     number_is : k.refusal ≡ refusal_of least_blocks (line_at list at) terms (held_in t)
     unfolding checked_of
-    number_is = ap (λ (c : Checked). c.refusal) f ∙ rw e
+    number_is = ap (λ (c : CheckedLine). c.refusal) f ∙ rw e
 
     line-is : k.line ≡ command_of least_blocks (line_at list at)
     unfolding checked_of
-    line-is = ap (λ (c : Checked). c.line) f ∙ rw e
+    line-is = ap (λ (c : CheckedLine). c.line) f ∙ rw e
 
     line_refused : {byte : ℕ} → (k.refusal ≡ none → ⊥) → byte ≡ fault_byte at k.line.command →
         refusing_at k.refusal line byte ≡ whole list terms h
@@ -72,7 +72,7 @@ module _ {list : List ℕ} {terms : Terms} {h : Header} {t : Table} {line at cou
         (sym (lines-refused v.n list terms h line at (held_in t) v.total left w (λ z. r (number_is ∙ z))) ∙ v.same)
 
     -- a fault lies within its line
-    fault-room : {f : Fault} {p : ℕ} → f ≡ fault_of k.line.command → f ≡ fault.At p → at + p ≤ length list
+    fault-room : {f : Option ℕ} {p : ℕ} → f ≡ fault_of k.line.command → f ≡ Some p → at + p ≤ length list
     fault-room {f} {p} q g =
         let z : (command_of least_blocks (line_at list at)).command ≡ Bad p = fault-bad (command_of least_blocks (line_at list at)).command (rw (sym line-is) (sym q ∙ g)) in
         omega (arith, fault-within (line_at list at) z, line-within list at w)
@@ -118,21 +118,25 @@ checking_start list terms h =
     }
 
 pub loop-at-init : goal.loop-at-init
-loop-at-init c = checking_start _ _ _
+loop-at-init c = rw c.new-table.ensures (checking_start _ _ _)
 
 pub overflow_add-byte : goal.overflow_add-byte
 overflow_add-byte c =
-    let w = fault-room c.loop-at.invariant (omega arith) c.line_at-l.ensures c.check_line-checked.ensures c.fault_of.ensures c.in-At.is in
+    let w = fault-room c.loop-at.invariant (omega arith) c.line_at-l.ensures c.check_line-checked.ensures c.fault_of.ensures c.in-Some.is in
     omega arith
 
-pub returns-in-At : goal.returns-in-At
-returns-in-At c =
-    line_refused c.loop-at.invariant (omega arith) c.line_at-l.ensures c.check_line-checked.ensures (omega arith)
-    (byte_at _ _ c.fault_of.ensures c.in-At.is)
+pub returns-in-Some : goal.returns-in-Some
+returns-in-Some c =
+    let n = number-refused _ c.in-Err.is in
+    ap (λ (m : ℕ). refusing_at m c.loop-at.line (c.loop-at.at + c.in-Some.p)) (sym n)
+    ∙ line_refused c.loop-at.invariant (omega arith) c.line_at-l.ensures c.check_line-checked.ensures (λ z. number-some _ (sym n ∙ z))
+    (byte_at _ _ c.fault_of.ensures c.in-Some.is)
 
 pub returns-in-None : goal.returns-in-None
 returns-in-None c =
-    line_refused c.loop-at.invariant (omega arith) c.line_at-l.ensures c.check_line-checked.ensures (omega arith)
+    let n = number-refused _ c.in-Err.is in
+    ap (λ (m : ℕ). refusing_at m c.loop-at.line 0) (sym n)
+    ∙ line_refused c.loop-at.invariant (omega arith) c.line_at-l.ensures c.check_line-checked.ensures (λ z. number-some _ (sym n ∙ z))
     (byte-none _ _ c.fault_of.ensures c.in-None.is)
 
 pub overflow_add-at : goal.overflow_add-at
@@ -146,8 +150,8 @@ loop-at-smaller c = let w = length-is _ c.loop-at-test.true c.line_at-l.ensures 
 
 pub loop-at-preserved : goal.loop-at-preserved
 loop-at-preserved c =
-    checking_next c.loop-at.invariant (omega arith) c.line_at-l.ensures c.check_line-checked.ensures (omega arith) (omega arith)
-    c.hold_after-count.ensures c.counted_blocks.ensures c.bounded_sum-counted.ensures
+    checking_next c.loop-at.invariant (omega arith) c.line_at-l.ensures c.check_line-checked.ensures (omega arith)
+    (number-none _ c.in_default.is) c.hold_after.ensures c.counted_blocks.ensures c.bounded_sum-counted.ensures
 
 pub returns-then-counted-h : goal.returns-then-counted-h
 returns-then-counted-h c = total_differs_lem c.loop-at.invariant (omega arith) (omega arith) (omega arith)

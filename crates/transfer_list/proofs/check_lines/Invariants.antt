@@ -5,7 +5,8 @@ use mathlib.Core.List.{List, []}
 use Prim.Native.Nat.{ℕ, suc, ◌+◌, ◌-◌, ◌≤◌, ◌<◌}
 use lib.ListN.{length}
 use Rattle.ranges.specs.Ranges.{least_blocks}
-use Rattle.state.specs.Stashes.{Table, Whole, table_at, held_in}
+use Rattle.state.specs.declared.stashes.Table.{Table}
+use Rattle.state.specs.Stashes.{Whole, held_in}
 use Rattle.state.specs.Sums.{bounded}
 use Rattle.state.specs.declared.Refusal.{Refusal}
 use Rattle.rules.specs.declared.Terms.{Terms}
@@ -29,7 +30,7 @@ pub record Checking (list : List ℕ) (terms : Terms) (h : Header) (t : Table) (
   pub same : lines_refusal least_blocks n list terms h line at (held_in t) total ≡ whole list terms h
 
 abbrev pub invariant-loop-at : goal.invariant-loop-at
-invariant-loop-at l = Checking l.list l.terms l.h (table_at l.hashes l.sizes l.count) l.line l.at l.counted
+invariant-loop-at l = Checking l.list l.terms l.h l.table l.line l.at l.counted
 
 abbrev pub decreases-loop-at : goal.decreases-loop-at
 decreases-loop-at l = length l.list - l.at

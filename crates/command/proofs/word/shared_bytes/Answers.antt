@@ -1,58 +1,32 @@
--- `command::word::shared_bytes` meets its contract.
-use mathlib.Core.Path.{◌≡◌, refl}
-use Prim.Native.Nat.{ℕ, suc, ◌+◌, ◌≤◌, ◌<◌}
-use native.Mathlib.Numerals.{add-one}
-use native.Mathlib.Omega.{arith}
-use mathlib.Core.List.{List}
-use lib.ListN.{length, get_or, drop_of_length-le}
-use lib.Seq.{drop-cons}
-use borrow.Author.Tests.{eq-eqb, ne_eqb}
+-- `command::word::shared_bytes` meets its contract: the chain gives the bytes before the first that differs.
+use Rattle.std.proofs.Common.{rules, tests, ◌≡◌, refl, ◌∙◌, arith, ◌+◌, ℕ, suc, Bool, true, false, List, [], ◌∷◌}
+use mathlib.Core.Bool.{cond}
+use lib.Dec.{eqb}
+use Rattle.std.specs.List.{zip, prefix_len}
+use Rattle.std.proofs.lemmas.Iterator.{YieldsList-from_slice, YieldsList-from_zip}
+use Rattle.std.proofs.lemmas.Iterator.Search.{YieldsList-from_take_while}
+use Rattle.std.proofs.lemmas.Iterator.Consumers.{count_from_yields_List}
+use Rattle.std.proofs.lemmas.List.Folds.{length-prefix_len}
+use Rattle.text.specs.Choice.{pick}
 use Rattle.command.specs.Words.{shared}
-use Rattle.command.proofs.word.shared_bytes.Invariants.{shared_from}
 use Rattle.command.proofs.word.shared_bytes.Goals as goal
 
-shared_start : (word l : List ℕ) → shared_from word l 0 ≡ shared word l
-unfolding shared_from
-shared_start word l = refl
+abbrev same : ℕ × ℕ → Bool
+same p = eqb p.1 p.0
 
-module _ (word l : List ℕ) (k : ℕ) where
-  shared-word : length word ≤ k → shared_from word l k ≡ 0
-  unfolding shared_from shared
-  shared-word h = rw (drop_of_length-le word h)
-
-  module _ (h : k < length word) where
-    shared-line : length l ≤ k → shared_from word l k ≡ 0
-    unfolding shared_from shared
-    shared-line m = rw (drop-cons word k 0 h, drop_of_length-le l m)
-
-    module _ (m : k < length l) where
-      shared-other : (get_or l k 0 ≡ get_or word k 0 → ⊥) → shared_from word l k ≡ 0
-      unfolding shared_from shared
-      shared-other n = rw (drop-cons word k 0 h, drop-cons l k 0 m, ne_eqb (get_or l k 0) (get_or word k 0) n)
-
-      shared-more : get_or l k 0 ≡ get_or word k 0 → shared_from word l k ≡ suc (shared_from word l (k + 1))
-      unfolding shared_from shared
-      shared-more e = rw (add-one k, drop-cons word k 0 h, drop-cons l k 0 m, eq-eqb (get_or l k 0) (get_or word k 0) e)
-
-pub loop-k-init : goal.loop-k-init
-loop-k-init c = let a = c.args in omega (arith, shared_start a.word.now a.l.now)
-
-pub returns-then-l-k : goal.returns-then-l-k
-returns-then-l-k c =
-    let a = c.args in
-    omega (arith, shared-line a.word.now a.l.now c.loop-k.k (omega arith) (omega arith))
-
-pub returns-then-l-k-2 : goal.returns-then-l-k-2
-returns-then-l-k-2 c =
-    let a = c.args in
-    omega (arith, shared-other a.word.now a.l.now c.loop-k.k (omega arith) (omega arith) c.if-l-k-2.true)
-
-pub loop-k-preserved : goal.loop-k-preserved
-loop-k-preserved c =
-    let a = c.args in
-    omega (arith, shared-more a.word.now a.l.now c.loop-k.k (omega arith) (omega arith) c.if-l-k-2.false)
+shared-prefix : (word l : List ℕ) → prefix_len same (zip word l) ≡ shared word l
+unfolding shared
+shared-prefix [] l = refl
+shared-prefix (c ∷ word) [] = refl
+shared-prefix (c ∷ word) (b ∷ l) = go (eqb b c) (shared-prefix word l)
+  where
+    go : (t : Bool) → prefix_len same (zip word l) ≡ shared word l → cond t (1 + prefix_len same (zip word l)) 0 ≡ pick t (suc (shared word l)) 0
+    go true e = omega arith
+    go false e = refl
 
 pub returns : goal.returns
 returns c =
-    let a = c.args in
-    omega (arith, shared-word a.word.now a.l.now c.loop-k.k (omega arith))
+    count_from_yields_List c.take_while.result _ c.count.ensures.ran
+    (YieldsList-from_take_while _ same (YieldsList-from_zip (YieldsList-from_slice c.args.word.now (cc)) (YieldsList-from_slice c.args.l.now (cc))) c.take_while.ensures.closure c.take_while.ensures.done
+    (λ x b q k. search (rules, tests)))
+    ∙ length-prefix_len same (zip c.args.word.now c.args.l.now) ∙ shared-prefix c.args.word.now c.args.l.now

@@ -3,11 +3,11 @@
 use mathlib.Core.Path.{◌≡◌}
 use Prim.Native.Nat.{◌≤◌}
 use Rattle.text.specs.Number.{largest}
-use Rattle.ranges.specs.Walk.{step_in}
+use Rattle.ranges.specs.Walk.{step_of}
 use Rattle.ranges.proofs.walk.next_block.Given as goal
 
-abbrev pub invariant-loop-end : goal.invariant-loop-end
-invariant-loop-end l = (l.end ≤ largest) × (step_in l.left l.s l.at l.block l.end ≡ step_in l.initial.left l.s l.initial.at l.initial.block l.initial.end)
+abbrev pub invariant-loop-rest : goal.invariant-loop-rest
+invariant-loop-rest l = (l.rest.end ≤ largest) × (step_of l.s l.rest ≡ step_of l.s l.initial.rest)
 
-abbrev pub decreases-loop-end : goal.decreases-loop-end
-decreases-loop-end l = l.left
+abbrev pub decreases-loop-rest : goal.decreases-loop-rest
+decreases-loop-rest l = l.rest.left

@@ -1,23 +1,22 @@
 -- `rules::moves::sum_stashes` meets its contract.
-use Prim.Native.Nat.{ℕ, ◌+◌, ◌≤◌, ◌<◌}
-use mathlib.Core.Path.{◌≡◌, refl, sym, ap, ◌∙◌}
+use Prim.Native.Nat.{ℕ, ◌+◌, ◌≤◌}
+use mathlib.Core.Path.{◌≡◌, refl, sym, ap, subst, ◌∙◌}
 use mathlib.Core.Bool.{Bool, false}
 use mathlib.Core.List.{List, [], ◌∷◌}
 use native.Mathlib.Omega.{arith}
-use lib.ListN.{length}
+use Rattle.std.specs.Prelude.{Option, Some, None, Result, Ok, Err}
 use Rattle.text.specs.Choice.{either}
+use Rattle.text.proofs.ChoiceLaws.{either_or_false, either-either}
 use Rattle.ranges.specs.Ranges.{least_again}
-use Rattle.ranges.specs.declared.RangeSet.{RangeSet}
 use Rattle.state.specs.Stashes.{Stash}
 use Rattle.state.specs.Sums.{bound, bounded}
-use Rattle.command.specs.Parts.{StashUse, part_at, uses_at}
 use Rattle.command.specs.declared.parts.Part.{Part}
-use Rattle.command.specs.declared.parts.PartRead.TheVariants as read
-use Rattle.command.proofs.PartLaws.{named_start, named_more, named_last, named_bad, part_next, part_read}
+use Rattle.command.specs.Parts.{StashUse, part_at, uses_at}
+use Rattle.command.proofs.PartLaws.{NamedFrom, NamedNext, named_start, named_next, named_bad}
 use Rattle.rules.specs.declared.moves.Sums.{Sums}
 use Rattle.rules.specs.Move.{some_missing, some_differ, places_named}
 use Rattle.rules.specs.Sums.{sums_of, sums_with}
-use Rattle.text.proofs.ChoiceLaws.{either_or_false, either-either}
+use Rattle.rules.proofs.UseLaws.{unread-less}
 use Rattle.rules.proofs.moves.sum_stashes.Invariants.{Summing, sums_from}
 use Rattle.rules.proofs.moves.sum_stashes.Goals as goal
 
@@ -41,7 +40,7 @@ sums_from_lem held sums (p ∷ ps) h =
     sums_from_lem held (sums_with sums held p.hash p.places.blocks) ps (omega arith)
     ∙ sums_eq (either-either sums.missing _ _) (either-either sums.differs _ _) (omega arith)
 
-summing_start : (l : List ℕ) (first : ℕ) (held : List Stash) → Summing l first held none first
+summing_start : (l : List ℕ) (first : ℕ) (held : List Stash) → Summing l first held none (Some first)
 unfolding sums_of
 summing_start l first held =
     record {
@@ -50,54 +49,42 @@ summing_start l first held =
       same = sums_from_lem held none (uses_at l first) (omega arith) ∙ sums_eq refl refl (omega arith);
     }
 
-module _ {l : List ℕ} {first : ℕ} {held : List Stash} {sums : Sums} {at : ℕ} {p : Part} (k : Summing l first held sums at)
-    (is : p ≡ part_at least_again l at) where
-  summing_bad : {q : ℕ} → p.read ≡ read.Bad q → sums ≡ sums_of held (uses_at l first)
+module _ {l : List ℕ} {first : ℕ} {held : List Stash} {sums : Sums} {next : Option ℕ} (k : Summing l first held sums next) where
+  summing_done : next ≡ None → sums ≡ sums_of held (uses_at l first)
   unfolding sums_from
-  summing_bad f = sym (ap (sums_from held sums) (named_bad k.text (part_read least_again l at p is f))) ∙ k.same
+  summing_done e = sym (ap (sums_from held sums) (subst (λ (n : Option ℕ). NamedNext l n k.left) e k.text)) ∙ k.same
 
-  summing_last : {places : RangeSet} {next : ℕ} {r : Sums} → p.read ≡ read.Last places next →
-      r ≡ sums_with sums held p.hash places.blocks → r ≡ sums_of held (uses_at l first)
-  unfolding sums_from
-  summing_last {places} f e =
-      e
-      ∙ ap (λ (q : Part). sums_with sums held q.hash places.blocks) is
-      ∙ sym (ap (sums_from held sums) (named_last k.text (part_read least_again l at p is f)))
-      ∙ k.same
+  module _ {at : ℕ} (here : next ≡ Some at) {r : Result Part ℕ} (read : r ≡ part_at least_again l at) where
+    from : NamedFrom l at k.left
+    from = subst (λ (n : Option ℕ). NamedNext l n k.left) here k.text
 
-  summing_more : {places : RangeSet} {next : ℕ} {r : Sums} → p.read ≡ read.More places next →
-      r ≡ sums_with sums held p.hash places.blocks → (at < next) × (next ≤ length l) × Summing l first held r next
-  unfolding sums_from
-  summing_more {places} f e =
-      let t = part_read least_again l at p is f in
-      let h = part_next least_again l at t in
-      let m = named_more k.text t in (
-        h.0,
-        h.1,
+    summing_bad : {q : ℕ} → r ≡ Err q → sums ≡ sums_of held (uses_at l first)
+    unfolding sums_from
+    summing_bad f = sym (ap (sums_from held sums) (named_bad from (sym read ∙ f))) ∙ k.same
+
+    summing_more : {p : Part} → r ≡ Ok p → {s : Sums} → s ≡ sums_with sums held p.hash p.places.blocks → Summing l first held s p.next
+    unfolding sums_from
+    summing_more {p} f e =
+        let m = named_next from (sym read ∙ f) in
         record {
           left = m.0;
           text = m.2;
-          same =
-              ap (λ (s : Sums). sums_from held s m.0) (e ∙ ap (λ (q : Part). sums_with sums held q.hash places.blocks) is)
-              ∙ sym (ap (sums_from held sums) m.1)
-              ∙ k.same;
-        },
-      )
+          same = ap (λ (s : Sums). sums_from held s m.0) e ∙ sym (ap (sums_from held sums) m.1) ∙ k.same;
+        }
 
-pub loop-sums-init : goal.loop-sums-init
-loop-sums-init c = summing_start _ _ _
+pub loop-next-init : goal.loop-next-init
+loop-next-init c = summing_start _ _ _
 
-pub returns-in-Bad : goal.returns-in-Bad
-returns-in-Bad c = summing_bad c.loop-sums.invariant c.read_part-part.ensures c.in-Bad.is
+pub returns-in_default-read_part : goal.returns-in_default-read_part
+returns-in_default-read_part c =
+    summing_bad c.loop-next.invariant c.in-Some.is c.read_part.ensures c.in_default-read_part.is
 
-pub returns-in-Last : goal.returns-in-Last
-returns-in-Last c =
-    summing_last c.loop-sums.invariant c.read_part-part.ensures c.in-Last.is c.add_stash.ensures
+pub loop-next-smaller : goal.loop-next-smaller
+loop-next-smaller c = unread-less _ c.read_part.ensures c.in-Some.is c.in-Ok.is
 
-pub loop-sums-smaller : goal.loop-sums-smaller
-loop-sums-smaller c =
-    let m = summing_more c.loop-sums.invariant c.read_part-part.ensures c.in-More.is c.add_stash-sums.ensures in
-    omega arith
+pub loop-next-preserved : goal.loop-next-preserved
+loop-next-preserved c =
+    summing_more c.loop-next.invariant c.in-Some.is c.read_part.ensures c.in-Ok.is c.add_stash-sums.ensures
 
-pub loop-sums-preserved : goal.loop-sums-preserved
-loop-sums-preserved c = (summing_more c.loop-sums.invariant c.read_part-part.ensures c.in-More.is c.add_stash-sums.ensures).2
+pub returns : goal.returns
+returns c = summing_done c.loop-next.invariant c.in_default.is

@@ -1,6 +1,6 @@
 -- `rules::places::places_fit` meets its contract: a pass over the places that the source names, of which none is taken
 -- yet.
-use mathlib.Core.Path.{◌≡◌, sym, ap, subst}
+use mathlib.Core.Path.{◌≡◌, sym, ap, subst, ◌∙◌}
 use mathlib.Core.Bool.{Bool, true}
 use mathlib.Core.List.{List, [], ◌++◌}
 use Prim.Native.Nat.{ℕ, ◌≤◌}
@@ -43,12 +43,6 @@ fit-blocks : (l : List ℕ) (n : ℕ) (source : Source) {set : RangeSet} → sou
 unfolding places_by some_misplaced
 fit-blocks l n source e = rw e
 
-pub returns-then-not-take_places : goal.returns-then-not-take_places
-returns-then-not-take_places c =
-    let k = c.clear_marks-in-Both in
-    fit _ _ _ _ (omega arith) k.ensures.sized k.ensures.clear
-    (pass_fails _ _ (begin_both _ _ _ c.in-Both.is) c.take_places.ensures c.if-not-take_places.true)
-
 pub returns-in-Blocks : goal.returns-in-Blocks
 returns-in-Blocks c = fit-blocks _ _ _ c.in-Blocks.is
 
@@ -58,10 +52,17 @@ returns-in-Stashes c =
     fit _ _ _ _ (omega arith) k.ensures.sized k.ensures.clear
     (pass-last (begin_stashes _ _ _ c.in-Stashes.is) c.take_uses.ensures)
 
-pub returns-else-not-take_places : goal.returns-else-not-take_places
-returns-else-not-take_places c =
+pub returns-then-take_places : goal.returns-then-take_places
+returns-then-take_places c =
     let k = c.clear_marks-in-Both in
     fit _ _ _ _ (omega arith) k.ensures.sized k.ensures.clear
     (pass-last
-    (pass_some _ _ (begin_both _ _ _ c.in-Both.is) c.take_places.ensures c.if-not-take_places.false)
-    c.take_uses-in-Both.ensures)
+    (pass_some _ _ (begin_both _ _ _ c.in-Both.is) c.take_places.ensures c.if-take_places.true)
+    c.take_uses-then-take_places.ensures)
+
+pub returns-else-take_places : goal.returns-else-take_places
+returns-else-take_places c =
+    let k = c.clear_marks-in-Both in
+    c.if-take_places.false
+    ∙ fit _ _ _ _ (omega arith) k.ensures.sized k.ensures.clear
+    (pass_fails _ _ (begin_both _ _ _ c.in-Both.is) c.take_places.ensures c.if-take_places.false)

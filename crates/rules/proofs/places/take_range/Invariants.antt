@@ -1,5 +1,4 @@
--- The loop's invariant: the places from p on, past those taken by now, give the answer of all. The measure is how many
--- are left.
+-- The loop's invariant: the places from p on, past those taken by now, give the answer of all.
 use Prim.Native.Nat.{◌-◌}
 use Rattle.ranges.specs.Ranges.{span}
 use Rattle.rules.proofs.PlaceLaws.{Pass}
@@ -7,6 +6,3 @@ use Rattle.rules.proofs.places.take_range.Given as goal
 
 abbrev pub invariant-loop-p : goal.invariant-loop-p
 invariant-loop-p l = Pass l.n l.initial.marks (span l.from (l.to - l.from)) l.marks (span l.p (l.to - l.p))
-
-abbrev pub decreases-loop-p : goal.decreases-loop-p
-decreases-loop-p l = l.to - l.p

@@ -6,33 +6,34 @@ use native.Mathlib.Omega.{arith}
 use mathlib.Core.List.{List, [], ◌∷◌, ◌++◌, append-nil}
 use lib.ListN.{length, take, set, length-set}
 use lib.Seq.{take-suc-set, append_snoc, take_all}
-use Rattle.text.specs.declared.expected.Expected.TheVariants as expected
-use Rattle.text.specs.declared.hash.Octet.TheVariants as octet
-use Rattle.text.specs.Hash.{octet_at, Octets, ok, fault, follow, octets_at, hash_bytes, no_hash, hash_of, hash_at}
+use Rattle.std.proofs.Common.{rules}
+use Rattle.std.specs.Prelude.{Ok, Err}
+use Rattle.text.specs.Hash.{octet_at, follow, octets_at, hash_bytes, hash_at}
+use Rattle.text.specs.Read.{Read}
 use Rattle.text.proofs.HashLaws.{octet_inside}
 use Rattle.text.proofs.hash.read_hash.Invariants.{Reading, joined}
 use Rattle.text.proofs.hash.read_hash.Goals as goal
 
-joined-none : (q : Octets) → joined [] q ≡ q
+joined-none : (q : Read (List ℕ)) → joined [] q ≡ q
 unfolding joined
-joined-none (ok vs next) = refl
-joined-none (fault p) = refl
+joined-none (Ok (vs, next)) = refl
+joined-none (Err p) = refl
 
-joined-follow : (us : List ℕ) (v : ℕ) (q : Octets) → joined us (follow v q) ≡ joined (us ++ (v ∷ [])) q
+joined-follow : (us : List ℕ) (v : ℕ) (q : Read (List ℕ)) → joined us (follow v q) ≡ joined (us ++ (v ∷ [])) q
 unfolding joined
-joined-follow us v (ok vs next) = ap (λ (l : List ℕ). ok l next) (sym (append_snoc us v vs))
-joined-follow us v (fault p) = refl
+joined-follow us v (Ok (vs, next)) = ap (λ (l : List ℕ). Ok (l, next)) (sym (append_snoc us v vs))
+joined-follow us v (Err p) = refl
 
 module _ (s : List ℕ) (i n : ℕ) (us : List ℕ) where
-  turn-bad : 0 < n → {p : ℕ} → octet_at s i ≡ octet.Bad p → joined us (octets_at n s i) ≡ fault p
+  turn-bad : 0 < n → {p : ℕ} → octet_at s i ≡ Err p → joined us (octets_at n s i) ≡ Err p
   unfolding octets_at joined
   turn-bad h {p} e = go n h
     where
-      go : (n : ℕ) → 0 < n → joined us (octets_at n s i) ≡ fault p
+      go : (n : ℕ) → 0 < n → joined us (octets_at n s i) ≡ Err p
       go zero l = absurd (omega arith)
       go (suc n) l = rw e
 
-  turn_more : 0 < n → {v : ℕ} → octet_at s i ≡ octet.Good v → joined us (octets_at n s i) ≡ joined (us ++ (v ∷ [])) (octets_at (n - 1) s (i + 2))
+  turn_more : 0 < n → {v : ℕ} → octet_at s i ≡ Ok v → joined us (octets_at n s i) ≡ joined (us ++ (v ∷ [])) (octets_at (n - 1) s (i + 2))
   unfolding octets_at
   turn_more h {v} e = go n h
     where
@@ -45,11 +46,11 @@ unfolding Reading
 reading-start s at bytes = joined-none (octets_at hash_bytes s at)
 
 module _ (s : List ℕ) (at : ℕ) (bytes : List ℕ) (i k : ℕ) (r : Reading s at bytes i k) where
-  reading-bad : k < hash_bytes → {p : ℕ} → octet_at s i ≡ octet.Bad p → hash_at s at ≡ record { read = expected.Bad p; bytes = no_hash }
-  unfolding Reading hash_at hash_of
-  reading-bad h e = ap hash_of (sym r ∙ turn-bad s i (hash_bytes - k) (take k bytes) (omega arith) e)
+  reading-bad : k < hash_bytes → {p : ℕ} → octet_at s i ≡ Err p → hash_at s at ≡ Err p
+  unfolding Reading hash_at
+  reading-bad h e = sym r ∙ turn-bad s i (hash_bytes - k) (take k bytes) (omega arith) e
 
-  reading-more : k < hash_bytes → length bytes ≡ hash_bytes → {v : ℕ} → octet_at s i ≡ octet.Good v → Reading s at (set bytes k v) (i + 2) (k + 1)
+  reading-more : k < hash_bytes → length bytes ≡ hash_bytes → {v : ℕ} → octet_at s i ≡ Ok v → Reading s at (set bytes k v) (i + 2) (k + 1)
   unfolding Reading
   reading-more h l {v} e =
       ap₂ (λ (us : List ℕ) (n : ℕ). joined us (octets_at n s (i + 2)))
@@ -57,31 +58,28 @@ module _ (s : List ℕ) (at : ℕ) (bytes : List ℕ) (i k : ℕ) (r : Reading s
       (omega arith)
       ∙ sym (turn_more s i (hash_bytes - k) (take k bytes) (omega arith) e) ∙ r
 
-  reading-end : k ≡ hash_bytes → length bytes ≡ hash_bytes → hash_at s at ≡ record { read = expected.Past i; bytes = bytes }
-  unfolding Reading hash_at hash_of joined octets_at
+  reading-end : k ≡ hash_bytes → length bytes ≡ hash_bytes → hash_at s at ≡ Ok (bytes, i)
+  unfolding Reading hash_at joined octets_at
   reading-end z l =
-      ap hash_of (sym (subst (λ (n : ℕ). joined (take n bytes) (octets_at (hash_bytes - n) s i) ≡ octets_at hash_bytes s at) z r)
-      ∙ ap (λ (bs : List ℕ). ok bs i) (append-nil (take hash_bytes bytes) ∙ take_all hash_bytes bytes (omega arith)))
+      sym (subst (λ (n : ℕ). joined (take n bytes) (octets_at (hash_bytes - n) s i) ≡ octets_at hash_bytes s at) z r)
+      ∙ ap (λ (bs : List ℕ). Ok (bs, i)) (append-nil (take hash_bytes bytes) ∙ take_all hash_bytes bytes (omega arith))
 
-pub loop-k-init : goal.loop-k-init
-loop-k-init c = (omega arith, refl, reading-start _ _ _)
+pub loop-byte-init : goal.loop-byte-init
+loop-byte-init c = (refl, reading-start _ _ _)
 
-pub returns-in-Bad : goal.returns-in-Bad
-returns-in-Bad c =
-    sym
-    (reading-bad _ _ _ _ _ c.loop-k.invariant.2 (omega arith)
-    (sym c.octet_at.ensures ∙ c.in-Bad.is))
+pub returns-in_err-byte : goal.returns-in_err-byte
+returns-in_err-byte c =
+    rw (reading-bad _ _ _ _ _ c.loop-byte.invariant.1 (omega arith) (sym c.octet_at.ensures ∙ c.in_err-byte.was)) (search rules)
 
 pub overflow_add-i : goal.overflow_add-i
-overflow_add-i c = omega (arith, octet_inside _ _ (sym c.octet_at.ensures ∙ c.in-Good.is))
+overflow_add-i c = omega (arith, octet_inside _ _ (sym c.octet_at.ensures ∙ c.in_ok-byte.was))
 
-pub loop-k-preserved : goal.loop-k-preserved
-loop-k-preserved c =
-    let l = c.loop-k in (
-      omega arith,
-      simp length-set l.invariant.1,
-      reading-more _ _ _ _ _ l.invariant.2 (omega arith) l.invariant.1 (sym c.octet_at.ensures ∙ c.in-Good.is),
+pub loop-byte-preserved : goal.loop-byte-preserved
+loop-byte-preserved c =
+    let l = c.loop-byte in (
+      simp length-set l.invariant.0,
+      reading-more _ _ _ _ _ l.invariant.1 (omega arith) l.invariant.0 (sym c.octet_at.ensures ∙ c.in_ok-byte.was),
     )
 
 pub returns : goal.returns
-returns c = sym (reading-end _ _ _ _ _ c.loop-k.invariant.2 (omega arith) c.loop-k.invariant.1)
+returns c = sym (reading-end _ _ _ _ _ c.loop-byte.invariant.1 (omega arith) c.loop-byte.invariant.0)

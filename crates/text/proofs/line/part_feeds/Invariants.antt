@@ -1,12 +1,8 @@
--- The loop's invariant: `n` is the count of the bytes before `i`.
+-- The loop's invariant: `n` is the count of the bytes before the one at hand.
 use mathlib.Core.Path.{◌≡◌}
-use Prim.Native.Nat.{◌-◌, ◌≤◌}
-use lib.ListN.{length, take}
+use lib.ListN.{take}
 use Rattle.text.specs.Line.{lfs_in}
 use Rattle.text.proofs.line.part_feeds.Given as goal
 
-abbrev pub invariant-loop-i : goal.invariant-loop-i
-invariant-loop-i l = (l.i ≤ length l.part) × (l.n ≡ lfs_in (take l.i l.part))
-
-abbrev pub decreases-loop-i : goal.decreases-loop-i
-decreases-loop-i l = length l.part - l.i
+abbrev pub invariant-loop-b : goal.invariant-loop-b
+invariant-loop-b l = l.n ≡ lfs_in (take l.b-index l.part)

@@ -4,5 +4,5 @@ use mathlib.Core.Path.{sym, ◌∙◌}
 use Rattle.text.proofs.NeedLaws.{number-met}
 use Rattle.text.proofs.number.read_number_for.Goals as goal
 
-pub returns-then-meets : goal.returns-then-meets
-returns-then-meets c = sym (number-met _ _ _ (sym c.read_number-read.ensures ∙ c.in-Good.is) (sym c.meets.ensures ∙ c.if-meets.true))
+pub returns-in-Ok : goal.returns-in-Ok
+returns-in-Ok c = c.in-Ok.is ∙ sym (number-met _ _ _ (sym c.read_number-read.ensures ∙ c.in-Ok.is) (sym c.meets.ensures ∙ c.if-meets.true))

@@ -7,12 +7,12 @@ use Rattle.state.specs.Limits.{block_bytes}
 use Rattle.updater.specs.Bytes.{gathered}
 use Rattle.updater.proofs.digest.set_has_hash.Given as goal
 
-abbrev pub invariant-loop-found : goal.invariant-loop-found
-invariant-loop-found l = record {
+abbrev pub invariant-loop-b : goal.invariant-loop-b
+invariant-loop-b l = record {
   count : l.hasher.count < 2 ^ 64;
-  blocks : AllBelow (length l.image / block_bytes) (remaining l.l l.w);
+  below : AllBelow (length l.image / block_bytes) (remaining l.l l.w);
   same : absorbed l.hasher (gathered (remaining l.l l.w) l.image) ≡ absorbed started (gathered (blocks_at l.l l.at) l.image);
 }
 
-abbrev pub decreases-loop-found : goal.decreases-loop-found
-decreases-loop-found l = length (remaining l.l l.w)
+abbrev pub decreases-loop-b : goal.decreases-loop-b
+decreases-loop-b l = length (remaining l.l l.w)

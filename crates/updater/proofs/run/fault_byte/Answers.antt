@@ -5,11 +5,11 @@ use Rattle.updater.proofs.run.fault_byte.Goals as goal
 
 pub overflow_add-result : goal.overflow_add-result
 overflow_add-result c =
-    let w = c.requires _ (fault-bad _ (sym c.fault_of.ensures ∙ c.in-At.is)) in
+    let w = c.requires _ (fault-bad _ (sym c.fault_of.ensures ∙ c.in-Some.is)) in
     omega arith
 
-pub returns-in-At : goal.returns-in-At
-returns-in-At c = byte_at _ _ c.fault_of.ensures c.in-At.is
+pub returns-in-Some : goal.returns-in-Some
+returns-in-Some c = byte_at _ _ c.fault_of.ensures c.in-Some.is
 
 pub returns-in-None : goal.returns-in-None
 returns-in-None c = byte-none _ _ c.fault_of.ensures c.in-None.is

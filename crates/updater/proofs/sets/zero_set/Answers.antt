@@ -8,7 +8,7 @@ use Rattle.copy.proofs.OverLaws.{length_over}
 use Rattle.updater.specs.Bytes.{zeroed}
 use Rattle.updater.proofs.ByteLaws.{below_next, zeroed-done, zeroed-next}
 use Rattle.updater.proofs.sets.zero_set.Goals as goal
-use Rattle.updater.proofs.sets.zero_set.Goals.{In-Block}
+use Rattle.updater.proofs.sets.zero_set.Goals.{In-Some}
 
 -- zeros over a lent block: the image when the block is back
 zeros-back : (image part : List ℕ) (b : ℕ) → block_bytes * b + block_bytes ≤ length image →
@@ -23,41 +23,40 @@ zeros-back image part b h e =
     rw (n, f)
 
 -- the block at hand is the first of those that are left
-met : (c : In-Block) → remaining c.args.l.now c.loop-b.w ≡ c.in-Block.b ∷ remaining c.args.l.now c.in-Block.rest
-met c = walk_block _ _ (sym c.next_block.ensures ∙ c.in-Block.is)
+met : (c : In-Some) → remaining c.args.l.now c.loop-b.w ≡ c.in-Some.b ∷ remaining c.args.l.now c.in-Some.rest
+met c = walk_block _ _ (sym c.next_block.ensures ∙ c.in-Some.is)
 
 -- .. and within the image
-within : (c : In-Block) → block_bytes * c.in-Block.b + block_bytes ≤ length c.loop-b.image
+within : (c : In-Some) → block_bytes * c.in-Some.b + block_bytes ≤ length c.loop-b.image
 within c =
     let i = c.loop-b.invariant in
-    omega (arith, (below_next (length c.args.image.now / block_bytes) (met c) i.blocks).0, i.keeps)
+    omega (arith, (below_next (length c.args.image.now / block_bytes) (met c) i.below).0, i.keeps)
 
 pub loop-b-init : goal.loop-b-init
 loop-b-init c =
     let e = ap (remaining _) c.walk_from-w.ensures ∙ walk_start c.args.l.now c.args.at in
     record {
       keeps = refl;
-      blocks = subst (AllBelow _) (sym e) c.requires;
+      below = subst (AllBelow _) (sym e) c.requires;
       same = ap (λ (bs : List ℕ). zeroed bs c.args.image.now) e;
     }
 
-pub returns-in-Done : goal.returns-in-Done
-returns-in-Done c =
-    sym (zeroed-done (walk-done _ _ (sym c.next_block.ensures ∙ c.in-Done.is)) _) ∙ c.loop-b.invariant.same
-
-pub slice_bounds-zero_all-end : goal.slice_bounds-zero_all-end
-slice_bounds-zero_all-end c = within c
+pub slice_bounds-fill-end : goal.slice_bounds-fill-end
+slice_bounds-fill-end c = within (goal.at.slice_bounds-fill-end c).In-Some
 
 pub loop-b-smaller : goal.loop-b-smaller
-loop-b-smaller c = omega (arith, ap length (met (goal.at.loop-b-smaller c).In-Block))
+loop-b-smaller c = omega (arith, ap length (met (goal.at.loop-b-smaller c).In-Some))
 
 pub loop-b-preserved : goal.loop-b-preserved
 loop-b-preserved c =
-    let here = (goal.at.loop-b-preserved c).In-Block in
+    let here = (goal.at.loop-b-preserved c).In-Some in
     let i = c.loop-b.invariant in
-    let e = zeros-back _ _ _ (within here) c.zero_all.ensures in
+    let e = zeros-back _ _ _ (within here) (c.fill.ensures.after (λ y h. h)) in
     record {
-      keeps = ap length e ∙ length_over c.loop-b.image (block_bytes * c.in-Block.b) (replicate block_bytes 0) (within here) ∙ i.keeps;
-      blocks = (below_next _ (met here) i.blocks).1;
+      keeps = ap length e ∙ length_over c.loop-b.image (block_bytes * c.in-Some.b) (replicate block_bytes 0) (within here) ∙ i.keeps;
+      below = (below_next _ (met here) i.below).1;
       same = zeroed-next (met here) _ e ∙ i.same;
     }
+
+pub returns : goal.returns
+returns c = sym (zeroed-done (walk-done _ _ (sym c.next_block.ensures ∙ c.in_default.is)) _) ∙ c.loop-b.invariant.same

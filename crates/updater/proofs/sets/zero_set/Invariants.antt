@@ -9,7 +9,7 @@ use Rattle.updater.proofs.sets.zero_set.Given as goal
 abbrev pub invariant-loop-b : goal.invariant-loop-b
 invariant-loop-b l = record {
   keeps : length l.image ≡ length l.initial.image;
-  blocks : AllBelow (length l.initial.image / block_bytes) (remaining l.l l.w);
+  below : AllBelow (length l.initial.image / block_bytes) (remaining l.l l.w);
   same : zeroed (remaining l.l l.w) l.image ≡ zeroed (blocks_at l.l l.at) l.initial.image;
 }
 

@@ -1,59 +1,58 @@
--- `spread_one` meets its contract: the row of the stash that was found, over its places.
-use Rattle.std.proofs.Common.{◌≡◌, ◌+◌, ◌-◌, ◌*◌, ◌/◌, ◌≤◌, List, length, sym, ap, ◌∙◌, subst, arith}
-use Rattle.ranges.specs.Walk.{blocks_at, remaining, AllBelow}
-use Rattle.ranges.proofs.WalkLaws.{length-span}
+-- `spread_one` meets its contract: the blocks of the stash that was found, over its places.
+use Rattle.std.proofs.Common.{◌≡◌, ◌+◌, ◌*◌, ◌/◌, ◌≤◌, ◌∷◌, length, sym, refl, ap, ◌∙◌, subst, arith}
+use Rattle.ranges.specs.Walk.{remaining, AllBelow}
+use Rattle.ranges.proofs.WalkLaws.{walk-done, walk_block}
 use Rattle.state.specs.Limits.{block_bytes}
-use Rattle.state.specs.Stashes.{Stash, table_at, held_in, find_in, size_at, stash_start}
-use Rattle.state.specs.declared.stashes.Found.TheVariants.{At}
-use Rattle.updater.proofs.ByteLaws.{below_span}
-use Rattle.updater.proofs.SourceLaws.{walk-blocks, found-size, start_exact, stash-within, spread_by}
+use Rattle.updater.proofs.ByteLaws.{below_next, span_next, written-done, gathered_next}
+use Rattle.updater.proofs.SourceLaws.{walk-blocks, stash_row}
 use Rattle.updater.proofs.source.spread_one.Goals as goal
-use Rattle.updater.proofs.source.spread_one.Goals.{After-stash_blocks, After-walk_from}
+use Rattle.updater.proofs.source.spread_one.Goals.{In-Some-next_block}
 
--- what is held
-abbrev held : After-stash_blocks → List Stash
-held c = held_in (table_at c.args.hashes.now c.args.sizes.now c.args.count)
+-- the place at hand is the first of those that are left
+met : (c : In-Some-next_block) → remaining c.args.l.now c.loop-p.w ≡ c.in-Some-next_block.p ∷ remaining c.args.l.now c.in-Some-next_block.rest
+met c = walk_block _ _ (sym c.next_block.ensures ∙ c.in-Some-next_block.is)
 
--- the stash that was found ..
-found : (c : After-stash_blocks) → find_in (held c) c.args.hash ≡ At c.in-At.j
-found c = sym (c.find_stash.ensures c.args.sizes.now) ∙ c.in-At.is
+-- .. and within the work area
+place : (c : In-Some-next_block) → block_bytes * c.in-Some-next_block.p + block_bytes ≤ length c.loop-p.work
+place c =
+    let i = c.loop-p.invariant in
+    omega (arith, (below_next (length c.args.work.now / block_bytes) (met c) i.below).0, i.keeps)
 
--- .. starts past the older ones ..
-first : (c : After-stash_blocks) → c.blocks_before-start.result ≡ stash_start (held c) c.in-At.j
-first c = start_exact _ _ c.requires.keeps c.in-At.j (c.blocks_before-start.ensures c.args.hashes.now)
+-- .. and its block is within the stash area
+within : (c : In-Some-next_block) → block_bytes * c.loop-p.block + block_bytes ≤ length c.args.stash.now
+within c = omega (arith, ap length (met c), c.loop-p.invariant.room)
 
--- .. and has as many blocks as there are places ..
-size : (c : After-stash_blocks) → c.stash_blocks.result ≡ size_at (held c) c.in-At.j
-size c = c.stash_blocks.ensures c.args.hashes.now
+pub loop-p-init : goal.loop-p-init
+loop-p-init c =
+    let e = walk-blocks _ _ c.walk_from-w.ensures in
+    let s = c.requires.spread in
+    let r = stash_row _ _ c.requires.keeps _ _ (sym c.find.ensures ∙ c.in-Some.is) c.blocks_before-block.ensures s.size in
+    record { keeps = refl; below = subst (AllBelow _) (sym e) s.below; room = rw e r.0; same = rw (e, r.1) }
 
-fits : (c : After-stash_blocks) → size_at (held c) c.in-At.j ≡ length (blocks_at c.args.l.now c.args.places.at)
-fits c = found-size _ _ (found c) c.requires.spread.size
+pub place_block-requires-clause-block_within : goal.place_block-requires-clause-block_within
+place_block-requires-clause-block_within c = within (goal.at.place_block-requires-clause-block_within c).In-Some-next_block
 
--- .. within the stash area
-within : (c : After-stash_blocks) → block_bytes * (c.blocks_before-start.result + c.stash_blocks.result) ≤ length c.args.stash.now
-within c =
-    omega (arith, first c, size c, fits c, stash-within (held c) c.args.stash.now c.requires.keeps c.in-At.j (fits c))
+pub place_block-requires-clause-place_within : goal.place_block-requires-clause-place_within
+place_block-requires-clause-place_within c = place (goal.at.place_block-requires-clause-place_within c).In-Some-next_block
 
--- the walk has the places
-walked : (c : After-walk_from) → remaining c.args.l.now c.walk_from.result ≡ blocks_at c.args.l.now c.args.places.at
-walked c = walk-blocks _ _ c.walk_from.ensures
+pub overflow_add-block : goal.overflow_add-block
+overflow_add-block c = omega (arith, within (goal.at.overflow_add-block c).In-Some-next_block)
 
-pub overflow_add-end : goal.overflow_add-end
-overflow_add-end c = omega (arith, within c)
+pub loop-p-smaller : goal.loop-p-smaller
+loop-p-smaller c = omega (arith, ap length (met (goal.at.loop-p-smaller c).In-Some-next_block))
 
-pub fill-requires : goal.fill-requires
-fill-requires c =
-    let here = (goal.at.fill-requires c).After-stash_blocks in
-    let n = c.blocks_before-start.result in
-    let m = c.stash_blocks.result in
+pub loop-p-preserved : goal.loop-p-preserved
+loop-p-preserved c =
+    let here = (goal.at.loop-p-preserved c).In-Some-next_block in
+    let i = c.loop-p.invariant in
+    let e = met here in
     record {
-      blocks_below = below_span (length c.args.stash.now / block_bytes) n (n + m - n) (omega (arith, within here));
-      places_below = subst (AllBelow _) (sym (walked c)) c.requires.spread.below;
-      as_many = omega (arith, ap length (walked c), size here, fits here, length-span n (n + m - n));
+      keeps = c.place_block.auto.work ∙ i.keeps;
+      below = (below_next _ e i.below).1;
+      room = omega (arith, ap length e, i.room);
+      same = gathered_next (span_next e c.loop-p.block) e c.args.stash.now c.loop-p.work (within here) c.place_block.ensures ∙ i.same;
     }
 
-pub returns-in-At : goal.returns-in-At
-returns-in-At c =
-    let at = goal.at.returns-in-At c in
-    let here = at.After-stash_blocks in
-    spread_by _ (held here) _ _ _ _ (walked at.After-walk_from) (found here) (first here) (size here) c.fill.ensures
+pub returns-in_default-next_block : goal.returns-in_default-next_block
+returns-in_default-next_block c =
+    sym (written-done (walk-done _ _ (sym c.next_block.ensures ∙ c.in_default-next_block.is)) _ _) ∙ c.loop-p.invariant.same

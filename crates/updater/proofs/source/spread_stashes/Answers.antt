@@ -1,88 +1,68 @@
 -- `spread_stashes` meets its contract.
-use Rattle.std.proofs.Common.{◌≡◌, ℕ, ◌/◌, List, [], ◌∷◌, length, sym, refl, ap, ◌∙◌, arith}
+use Rattle.std.proofs.Common.{◌≡◌, ℕ, ◌/◌, List, ◌∷◌, length, sym, refl, ap, ◌∙◌, subst}
 use Rattle.ranges.specs.Ranges.{least_again}
 use Rattle.ranges.specs.Walk.{blocks_at}
-use Rattle.ranges.specs.declared.RangeSet.{RangeSet}
 use Rattle.state.specs.Limits.{block_bytes}
 use Rattle.state.specs.Stashes.{Stash}
 use Rattle.command.specs.declared.parts.Part.{Part}
-use Rattle.command.specs.declared.parts.PartRead.TheVariants as read
 use Rattle.command.specs.Parts.{StashUse, part_at, uses_at}
-use Rattle.command.proofs.PartLaws.{NamedFrom, named_start, named_more, named_last, named_bad, part_next, part_read}
+use Rattle.command.proofs.PartLaws.{NamedFrom, NamedNext, named_start, named_next, named_bad}
+use Rattle.rules.proofs.UseLaws.{unread-less}
 use Rattle.updater.specs.Bytes.{written}
 use Rattle.updater.specs.Source.{stash_bytes, spread}
 use Rattle.updater.specs.Runnable.{Keeps, use_of, Spread}
 use Rattle.updater.proofs.SourceLaws.{spreads_head, spreads_tail, spread-done, spread-next, length-spread-one}
 use Rattle.updater.proofs.source.spread_stashes.Invariants.{Spreading}
 use Rattle.updater.proofs.source.spread_stashes.Goals as goal
+use Rattle.std.specs.Prelude.{Option, Some, None, Result, Ok, Err}
 
-module _ {l : List ℕ} {xs : List Stash} {stash : List ℕ} {first : ℕ} {work₀ : List ℕ} {at : ℕ} {work : List ℕ}
-    (k : Spreading l xs stash first work₀ at work) (p : Part) (is : p ≡ part_at least_again l at) where
-  -- what the spreading of one of them leaves
-  abbrev One : RangeSet → List ℕ → Type 0
-  One places work' = work' ≡ written (blocks_at l places.at) (stash_bytes xs stash p.hash) work
+module _ {l : List ℕ} {xs : List Stash} {stash : List ℕ} {first : ℕ} {work₀ : List ℕ} {next : Option ℕ} {work : List ℕ}
+    (k : Spreading l xs stash first work₀ next work) where
+  all-done : next ≡ None → work ≡ spread l xs stash (uses_at l first) work₀
+  all-done e = sym (spread-done l xs stash (subst (λ (n : Option ℕ). NamedNext l n k.ps) e k.from) work) ∙ k.same
 
-  named_here : {rest : List StashUse} {places : RangeSet} → k.ps ≡ record { hash = (part_at least_again l at).hash; places = places } ∷ rest →
-      k.ps ≡ use_of p.hash places ∷ rest
-  named_here {rest} {places} e = e ∙ ap (λ (q : Part). use_of q.hash places ∷ rest) (sym is)
+  module _ {at : ℕ} (here : next ≡ Some at) {r : Result Part ℕ} (read : r ≡ part_at least_again l at) where
+    from : NamedFrom l at k.ps
+    from = subst (λ (n : Option ℕ). NamedNext l n k.ps) here k.from
 
-  fits-here : {rest : List StashUse} {places : RangeSet} → k.ps ≡ use_of p.hash places ∷ rest →
-      Spread l xs (length work / block_bytes) (use_of p.hash places)
-  fits-here e = rw k.keeps (spreads_head l xs (length work₀ / block_bytes) e k.fits)
+    bad-done : {q : ℕ} → r ≡ Err q → work ≡ spread l xs stash (uses_at l first) work₀
+    bad-done f = sym (spread-done l xs stash (named_bad from (sym read ∙ f)) work) ∙ k.same
 
-  bad-same : {q : ℕ} → p.read ≡ read.Bad q → work ≡ spread l xs stash (uses_at l first) work₀
-  bad-same f = sym (spread-done l xs stash (named_bad k.from (part_read least_again l at p is f)) work) ∙ k.same
+    module _ {p : Part} (f : r ≡ Ok p) where
+      rest : (rest : List StashUse) × (k.ps ≡ use_of p.hash p.places ∷ rest) × NamedNext l p.next rest
+      rest = named_next from (sym read ∙ f)
 
-  module _ {places : RangeSet} {next : ℕ} where
-    module _ (f : p.read ≡ read.Last places next) where
-      last-here : k.ps ≡ use_of p.hash places ∷ []
-      last-here = named_here (named_last k.from (part_read least_again l at p is f))
+      fits-here : Spread l xs (length work / block_bytes) (use_of p.hash p.places)
+      fits-here = rw k.keeps (spreads_head l xs (length work₀ / block_bytes) rest.1 k.fits)
 
-      last-same : {work' : List ℕ} → One places work' → work' ≡ spread l xs stash (uses_at l first) work₀
-      last-same {work'} w = sym (spread-done l xs stash refl work') ∙ spread-next l xs stash last-here work w ∙ k.same
-
-    module _ (f : p.read ≡ read.More places next) where
-      more-here : (rest : List StashUse) × (k.ps ≡ use_of p.hash places ∷ rest) × NamedFrom l next rest
-      more-here = let m = named_more k.from (part_read least_again l at p is f) in (m.0, named_here m.1, m.2)
-
-      more_left : {work' : List ℕ} → Keeps xs stash → One places work' → Spreading l xs stash first work₀ next work'
-      more_left {work'} h w =
-          let m = more-here in
+      -- what the spreading of this one leaves
+      more_left : {work' : List ℕ} → Keeps xs stash → work' ≡ written (blocks_at l p.places.at) (stash_bytes xs stash p.hash) work →
+          Spreading l xs stash first work₀ p.next work'
+      more_left h w =
           record {
-            ps = m.0;
-            from = m.2;
-            fits = spreads_tail l xs (length work₀ / block_bytes) m.1 k.fits;
-            keeps = ap length w ∙ length-spread-one l xs stash h (use_of p.hash places) work (fits-here m.1) ∙ k.keeps;
-            same = spread-next l xs stash m.1 work w ∙ k.same;
+            ps = rest.0;
+            from = rest.2;
+            fits = spreads_tail l xs (length work₀ / block_bytes) rest.1 k.fits;
+            keeps = ap length w ∙ length-spread-one l xs stash h (use_of p.hash p.places) work fits-here ∙ k.keeps;
+            same = spread-next l xs stash rest.1 work w ∙ k.same;
           }
 
-pub loop-places-init : goal.loop-places-init
-loop-places-init c =
+pub loop-next-init : goal.loop-next-init
+loop-next-init c =
     record { ps = _; from = named_start c.args.l.now c.args.first; fits = c.requires.spreads; keeps = refl; same = refl }
 
-pub returns-in-Bad : goal.returns-in-Bad
-returns-in-Bad c = bad-same c.loop-places.invariant _ c.read_part-part.ensures c.in-Bad.is
+pub returns-in_default-read_part : goal.returns-in_default-read_part
+returns-in_default-read_part c = bad-done c.loop-next.invariant c.in-Some.is c.read_part.ensures c.in_default-read_part.is
 
 pub spread_one-requires-clause-spread : goal.spread_one-requires-clause-spread
-spread_one-requires-clause-spread c =
-    let i = c.loop-places.invariant in
-    let e = c.read_part-part.ensures in
-    fits-here i _ e (last-here i _ e c.in-Last.is)
+spread_one-requires-clause-spread c = fits-here c.loop-next.invariant c.in-Some.is c.read_part.ensures c.in-Ok.is
 
-pub returns-in-Last : goal.returns-in-Last
-returns-in-Last c = last-same c.loop-places.invariant _ c.read_part-part.ensures c.in-Last.is c.spread_one.ensures
+pub loop-next-smaller : goal.loop-next-smaller
+loop-next-smaller c = unread-less _ c.read_part.ensures c.in-Some.is c.in-Ok.is
 
-pub spread_one-requires-in-More-clause-spread : goal.spread_one-requires-in-More-clause-spread
-spread_one-requires-in-More-clause-spread c =
-    let i = c.loop-places.invariant in
-    let e = c.read_part-part.ensures in
-    fits-here i _ e (more-here i _ e c.in-More.is).1
+pub loop-next-preserved : goal.loop-next-preserved
+loop-next-preserved c =
+    more_left c.loop-next.invariant c.in-Some.is c.read_part.ensures c.in-Ok.is c.requires.keeps c.spread_one.ensures
 
-pub loop-places-smaller : goal.loop-places-smaller
-loop-places-smaller c =
-    let n = part_next _ _ _ (part_read _ _ _ _ c.read_part-part.ensures c.in-More.is) in
-    omega arith
-
-pub loop-places-preserved : goal.loop-places-preserved
-loop-places-preserved c =
-    more_left c.loop-places.invariant _ c.read_part-part.ensures c.in-More.is c.requires.keeps c.spread_one-in-More.ensures
+pub returns : goal.returns
+returns c = all-done c.loop-next.invariant c.in_default.is

@@ -1,5 +1,0 @@
--- The calls left fall.
-use Rattle.list_cases.proofs.calls.Given as goal
-
-abbrev pub decreases-loop-left : goal.decreases-loop-left
-decreases-loop-left g l = l.left

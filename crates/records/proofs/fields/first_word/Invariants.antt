@@ -1,6 +1,0 @@
--- Each turn leaves one byte fewer.
-use Rattle.std.proofs.Common.{length, ◌-◌}
-use Rattle.records.proofs.fields.first_word.Given as goal
-
-abbrev pub decreases-loop-i : goal.decreases-loop-i
-decreases-loop-i l = length l.s - l.i

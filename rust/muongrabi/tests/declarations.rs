@@ -36,6 +36,24 @@ fn constants(source: &str) -> Vec<(&str, usize)> {
     consts.filter_map(|(name, number)| Some((name, number.parse().ok()?))).collect()
 }
 
+/// `AreaSize` as `AREA_SIZE`.
+fn constant_name(name: &str) -> String {
+    let mut spelled = String::new();
+    for c in name.chars() {
+        if c.is_uppercase() && !spelled.is_empty() {
+            spelled.push('_');
+        }
+        spelled.extend(c.to_uppercase());
+    }
+    spelled
+}
+
+/// The number of each reason of the proved source, under the name that a constant would have.
+fn reasons() -> Vec<(String, usize)> {
+    let arms = REFUSALS.lines().filter_map(|line| line.trim().strip_prefix("Reason::")?.strip_suffix(',')?.split_once(" => "));
+    arms.filter_map(|(name, number)| Some((constant_name(name), number.parse().ok()?))).collect()
+}
+
 #[test]
 fn version() {
     assert_eq!(defined("MUONGRABI_VERSION"), format!("\"{}\"", env!("CARGO_PKG_VERSION")));
@@ -129,7 +147,7 @@ fn refusal_numbers() {
         .map(|(name, rest)| (name, rest.split([',', ' ']).next().and_then(|digits| digits.parse().ok()).expect("a number")))
         .collect();
     assert_eq!(of_header, numbers);
-    assert_eq!(constants(REFUSALS), numbers);
+    assert_eq!(reasons(), numbers.map(|(name, number)| (name.to_string(), number)));
 }
 
 /// What the number means, in the crate's words.
@@ -259,8 +277,9 @@ fn numbers_of_a_state_in_their_order() {
     assert_eq!(written.collect::<Vec<_>>(), expected);
     let read = items(EXPORTS, "let [\n", "] = numbers;").into_iter().map(named);
     assert_eq!(read.collect::<Vec<_>>(), expected);
-    let proved = items(LIBRARY, "*numbers = [\n", "];").into_iter().map(|item| item.strip_prefix("progress.").unwrap_or(item));
-    assert_eq!(proved.collect::<Vec<_>>(), expected);
+    let fields = items(between(LIBRARY, "fn numbers_of(state: &State)", "\n}\n"), "{\n    [\n", "    ]");
+    let proved = fields.into_iter().map(|field| field.strip_prefix("state.").expect("a field of the state"));
+    assert_eq!(proved.map(|field| field.strip_prefix("table.").unwrap_or(field)).collect::<Vec<_>>(), expected);
     for (k, name) in expected.iter().enumerate() {
         for both in [format!("numbers[{k}] = fields->{name};"), format!("fields->{name} = numbers[{k}];")] {
             assert!(HEADER.contains(&both), "{both}");
@@ -273,7 +292,7 @@ fn answers_in_their_order() {
     let refusal = header_fields("refusal");
     assert_eq!(refusal, ["number", "line", "byte"]);
     assert_eq!(items(EXPORTS, "let [number", "] = answer"), refusal[1..]);
-    assert_eq!(items(LIBRARY, "*answer = [\n", "];"), refusal.iter().map(|name| format!("refused.{name} as u64")).collect::<Vec<_>>());
+    assert_eq!(items(LIBRARY, "*answer = [\n", "];"), refusal.iter().map(|name| format!("opened.refusal.{name} as u64")).collect::<Vec<_>>());
     let answer = header_fields("answer");
     assert_eq!(answer, ["outcome", "number", "line", "byte", "taken"]);
     assert_eq!(items(OUTCOME, "fn of([", "]: [u64; 5])"), answer);

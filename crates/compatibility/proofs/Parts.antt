@@ -7,11 +7,12 @@ use mathlib.Core.List.{List, [], ◌∷◌}
 use lib.ListN.{length}
 use Rattle.text.specs.Choice.{either}
 use Rattle.text.specs.Expected.{expected_at, colon, space, lf}
-use Rattle.text.specs.Hash.{hash_at}
+use Rattle.text.specs.Hash.{no_hash, hash_at}
 use Rattle.ranges.specs.Ranges.{least_blocks, ranges_at}
 use Rattle.ranges.specs.declared.RangeSet.{RangeSet}
-use Rattle.command.specs.Parts.{part_end, places_from, part_at, parts_in, parts_at, StashUse, uses_in, uses_at}
+use Rattle.command.specs.Parts.{part_end, places_from, bad_part, part_at, parts_in, parts_at, StashUse, uses_in, uses_at}
 use Rattle.command.specs.declared.parts.Part.{Part}
+use Rattle.command.specs.declared.parts.BadPart.{BadPart}
 use Rattle.compatibility.specs.EmptyRanges.{least_before, empty_in_set, empty_in_uses}
 use Rattle.compatibility.proofs.Sets.{RangesTold, ranges-told}
 use Rattle.std.specs.Prelude.{Option, Some, None, Result, Ok, Err}
@@ -19,7 +20,7 @@ use Rattle.text.specs.Read.{Read, on_read, on_result, on_option}
 
 -- ---- one P
 
-abbrev PartTold : List ℕ → Result Part ℕ → Result Part ℕ → Type 0
+abbrev PartTold : {E : Type 0} → List ℕ → Result Part E → Result Part E → Type 0
 PartTold l (Ok x) (Ok y) = (x.next ≡ y.next) × (empty_in_set l x.places ≡ false)
 PartTold l (Ok x) (Err p) = empty_in_set l x.places ≡ true
 PartTold l (Err q) (Ok y) = ⊥
@@ -28,8 +29,8 @@ PartTold l (Err q) (Err p) = Unit {0}
 module _ (l hash : List ℕ) where
   abbrev end : RangeSet → Result ℕ ℕ → Result ℕ ℕ → Result Part ℕ
   end places x y =
-      on_result x (λ next. Ok (record { hash = hash; places = places; next = None }))
-      (λ p. on_result y (λ next. Ok (record { hash = hash; places = places; next = Some next })) Err)
+      on_result x (λ next. Ok (record { hash = hash; places = places; next = None; end = next }))
+      (λ p. on_result y (λ next. Ok (record { hash = hash; places = places; next = Some next; end = next })) Err)
 
   -- the same places, and what follows them
   end_same : (places : RangeSet) (i : ℕ) → empty_in_set l places ≡ false → PartTold l (part_end l hash places i) (part_end l hash places i)
@@ -72,8 +73,17 @@ part_told : (l : List ℕ) (at : ℕ) → PartTold l (part_at least_before l at)
 unfolding part_at
 part_told l at = go (hash_at l at)
   where
-    go : (x : Read (List ℕ)) → PartTold l (on_read x (places_from least_before l) Err) (on_read x (places_from least_blocks l) Err)
-    go (Ok (hash, i)) = places-told l hash i
+    beside : (hash : List ℕ) (x y : Result Part ℕ) → PartTold l x y → PartTold l (on_result x Ok (bad_part hash)) (on_result y Ok (bad_part hash))
+    beside hash (Ok a) (Ok b) h = h
+    beside hash (Ok a) (Err p) h = h
+    beside hash (Err q) (Ok b) h = h
+    beside hash (Err q) (Err p) h = h
+
+    read : ℕ → Read (List ℕ) → Result Part BadPart
+    read least x = on_read x (λ hash i. on_result (places_from least l hash i) Ok (bad_part hash)) (bad_part no_hash)
+
+    go : (x : Read (List ℕ)) → PartTold l (read least_before x) (read least_blocks x)
+    go (Ok (hash, i)) = beside hash (places_from least_before l hash i) (places_from least_blocks l hash i) (places-told l hash i)
     go (Err p) = tt
 
 -- ---- the Ps to the line's end
@@ -105,14 +115,14 @@ module _ (l : List ℕ) (first : ℕ) where
   in_told zero at = tt
   in_told (suc n) at = go (part_at least_before l at) (part_at least_blocks l at) (part_told l at) (in_told n)
     where
-      uses : Result Part ℕ → List StashUse
+      uses : Result Part BadPart → List StashUse
       uses x = on_result x (λ part. record { hash = part.hash; places = part.places } ∷ on_option part.next (uses_in n l) []) (λ p. [])
 
       after : ℕ → Option ℕ → Result ℕ ℕ
       after least m = on_option m (parts_in least n l first) (Ok first)
 
-      rest : ℕ → Result Part ℕ → Result ℕ ℕ
-      rest least x = on_result x (λ part. after least part.next) Err
+      rest : ℕ → Result Part BadPart → Result ℕ ℕ
+      rest least x = on_result x (λ part. after least part.next) (λ bad. Err bad.at)
 
       empty : Bool → Option ℕ → Bool
       empty e m = either e (empty_in_uses l (on_option m (uses_in n l) []))
@@ -125,12 +135,12 @@ module _ (l : List ℕ) (first : ℕ) where
       lost e (Some i) p h next = spoilt e (empty_in_uses l (uses_in n l i)) p (parts_in least_before n l first i) (parts_in least_blocks n l first i) h (next i)
       lost e None p h next = (refl, rw h)
 
-      go : (x y : Result Part ℕ) → PartTold l x y → ((at : ℕ) → InTold n at) →
+      go : (x y : Result Part BadPart) → PartTold l x y → ((at : ℕ) → InTold n at) →
           PartsTold first (empty_in_uses l (uses x)) (rest least_before x) (rest least_blocks y)
       go (Ok x) (Ok y) h next =
           subst (λ m. PartsTold first (empty_in_uses l (uses (Ok x))) (rest least_before (Ok x)) (after least_blocks m)) h.0
           (same (empty_in_set l x.places) x.next h.1 next)
-      go (Ok x) (Err p) h next = lost (empty_in_set l x.places) x.next p h next
+      go (Ok x) (Err p) h next = lost (empty_in_set l x.places) x.next p.at h next
       go (Err q) (Ok y) h next = absurd h
       go (Err q) (Err p) h next = tt
 

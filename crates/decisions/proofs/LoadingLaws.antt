@@ -1,6 +1,6 @@
 -- Laws of `specs/Loading.antt`.
 -- Assumes nothing.
-use Rattle.std.proofs.Common.{ℕ, ◌*◌, ◌≤◌, ◌≡◌, List, arith, length, ltb, ltb-false, Option, Some, None}
+use Rattle.std.proofs.Common.{ℕ, ◌*◌, ◌≤◌, List, arith, length, ltb, ltb-false, Some, None}
 use Rattle.text.proofs.ChoiceLaws.{picks}
 use Rattle.state.specs.Limits.{block_bytes}
 use Rattle.sparse_file.specs.Header.{total_blocks}

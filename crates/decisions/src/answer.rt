@@ -1,34 +1,85 @@
-// The answer lines, as they are printed.
-ghost use Rattle.std.specs.Prelude.{◌≡◌, Some};
-ghost use Rattle.std.specs.Fmt.{DisplaysOnOk};
+// The answer line.
+ghost use Rattle.std.specs.Prelude.{◌+◌, ◌≤◌, ◌≡◌, length};
+ghost use Rattle.std.proofs.Math.Seq.{paste};
+ghost use Rattle.io.specs.Counts.{IsPrefixLen};
 ghost use Rattle.state.specs.Refusals.{has_byte};
-ghost use Rattle.decisions.specs.Answer.{refusal_line, answer_line};
-ghost use Rattle.decisions.specs.Loading.{loading_line};
+ghost use Rattle.decisions.specs.Answer.{decimal, most_digits, refused_word, number_line, refused_line, fault_line, refusal_line, answer_line, line_of};
+ghost use Rattle.decisions.specs.Loading.{load_line, loading_line};
 
 use state::Refusal;
 use state::refusals::Reason;
-use std::fmt;
 use updater::Outcome;
 
-// What an update came to: the outcome, and all bytes taken.
+// `refused `, three numbers, the spaces between them and an LF.
+const LINE_BYTES: usize = 71;
+
+// A line at the start of a buffer, with zeros past it.
 #[derive(Clone, Copy)]
-pub struct Answer {
-    pub outcome: Outcome,
-    pub taken: u64,
+pub struct Line {
+    pub bytes: [u8; LINE_BYTES],
+    pub length: usize,
 }
 
-impl fmt::Display for Answer {
-    ghost output = { λ a. Some (answer_line a.outcome a.taken) };
+// Puts a text at a place of a buffer, and answers where it ends.
+fn put(out: &mut [u8], at: usize, text: &[u8]) -> usize
+    requires { at + length text.now ≤ length out.old }
+    ensures value { result ≡ at + length text.now }
+    ensures out_after { out.new ≡ paste out.old at text.now (length text.now) }
+{
+    let end = at + text.len();
+    out[at..end].copy_from_slice(text);
+    end
+}
 
-    fn fmt<W: fmt::Write>(&self, f: &mut fmt::Formatter<W>) -> fmt::Result {
-        let taken = self.taken;
-        match self.outcome {
-            Outcome::Done => writeln!(f, "done {taken}"),
-            Outcome::More => writeln!(f, "more {taken}"),
-            Outcome::Stop => writeln!(f, "stop {taken}"),
-            Outcome::Refused(refusal) => write_refusal(refusal, f),
-        }
-    }
+fn put_decimal(out: &mut [u8], at: usize, n: u64) -> usize
+    requires { at + most_digits ≤ length out.old }
+    ensures value { (result ≡ at + length (decimal n)) × (result ≤ at + most_digits) }
+    ensures out_after { out.new ≡ paste out.old at (decimal n) (length (decimal n)) }
+{
+    let mut digits = [0; 20];
+    let k = io::decimal(n, &mut digits);
+    put(out, at, &digits[..k])
+}
+
+fn number_line(word: &[u8], n: u64) -> Line
+    requires { length word.now ≤ length refused_word }
+    ensures value { result ≡ line_of (number_line word.now n) }
+    ensures prefix_len { IsPrefixLen result.length result.bytes }
+{
+    let mut bytes = [0; LINE_BYTES];
+    let a = put(&mut bytes, 0, word);
+    let b = put_decimal(&mut bytes, a, n);
+    let length = put(&mut bytes, b, b"\n");
+    Line { bytes, length }
+}
+
+fn refused_line(number: usize, line: usize) -> Line
+    ensures value { result ≡ line_of (refused_line number line) }
+    ensures prefix_len { IsPrefixLen result.length result.bytes }
+{
+    let mut bytes = [0; LINE_BYTES];
+    let a = put(&mut bytes, 0, b"refused ");
+    let b = put_decimal(&mut bytes, a, number as u64);
+    let c = put(&mut bytes, b, b" ");
+    let d = put_decimal(&mut bytes, c, line as u64);
+    let length = put(&mut bytes, d, b"\n");
+    Line { bytes, length }
+}
+
+// A refusal with the byte of its fault.
+fn fault_line(number: usize, line: usize, byte: usize) -> Line
+    ensures value { result ≡ line_of (fault_line number line byte) }
+    ensures prefix_len { IsPrefixLen result.length result.bytes }
+{
+    let mut bytes = [0; LINE_BYTES];
+    let a = put(&mut bytes, 0, b"refused ");
+    let b = put_decimal(&mut bytes, a, number as u64);
+    let c = put(&mut bytes, b, b" ");
+    let d = put_decimal(&mut bytes, c, line as u64);
+    let e = put(&mut bytes, d, b" ");
+    let f = put_decimal(&mut bytes, e, byte as u64);
+    let length = put(&mut bytes, f, b"\n");
+    Line { bytes, length }
 }
 
 fn has_byte(number: usize) -> bool
@@ -37,33 +88,48 @@ fn has_byte(number: usize) -> bool
     number == Reason::HeaderForm.number() || number == Reason::LineForm.number()
 }
 
-// 3 and 6 are printed with the byte of their fault.
 #[tactic(auto, unfolding(crate::specs::Answer::refusal_line))]
-fn write_refusal<W: fmt::Write>(refusal: Refusal, f: &mut fmt::Formatter<W>) -> fmt::Result
-    ensures { DisplaysOnOk W.write_str_gives f.old result (Some (refusal_line refusal)) f.new }
+fn refusal_line(refusal: Refusal) -> Line
+    ensures value { result ≡ line_of (refusal_line refusal) }
+    ensures prefix_len { IsPrefixLen result.length result.bytes }
 {
-    let Refusal { number, line, byte } = refusal;
-    if has_byte(number) {
-        writeln!(f, "refused {number} {line} {byte}")
-    } else {
-        writeln!(f, "refused {number} {line}")
+    if has_byte(refusal.number) {
+        return fault_line(refusal.number, refusal.line, refusal.byte);
+    }
+    refused_line(refusal.number, refusal.line)
+}
+
+// What is printed for an outcome and all bytes taken.
+pub fn answer_line(outcome: Outcome, taken: u64) -> Line
+    ensures value { result ≡ line_of (answer_line outcome taken) }
+    ensures prefix_len { IsPrefixLen result.length result.bytes }
+{
+    match outcome {
+        Outcome::Done => number_line(b"done ", taken),
+        Outcome::More => number_line(b"more ", taken),
+        Outcome::Stop => number_line(b"stop ", taken),
+        Outcome::Refused(refusal) => refusal_line(refusal),
     }
 }
 
-// What a load came to: the image's blocks, or why it was refused.
-#[derive(Clone, Copy)]
-pub struct LoadAnswer(pub Result<usize, Reason>);
+// What is printed for a load: its blocks, or the number of its refusal.
+pub fn load_line(number: usize, blocks: usize) -> Line
+    ensures value { result ≡ line_of (load_line number blocks) }
+    ensures prefix_len { IsPrefixLen result.length result.bytes }
+{
+    if number != 0 {
+        return number_line(b"refused ", number as u64);
+    }
+    number_line(b"loaded ", blocks as u64)
+}
 
-impl fmt::Display for LoadAnswer {
-    ghost output = { λ a. Some (loading_line a.0) };
-
-    fn fmt<W: fmt::Write>(&self, f: &mut fmt::Formatter<W>) -> fmt::Result {
-        match self.0 {
-            Ok(blocks) => writeln!(f, "loaded {blocks}"),
-            Err(reason) => {
-                let number = reason.number();
-                writeln!(f, "refused {number}")
-            }
-        }
+// The same by what a load came to: the image's blocks, or why it was refused.
+pub fn loading_line(loaded: Result<usize, Reason>) -> Line
+    ensures value { result ≡ line_of (loading_line loaded) }
+    ensures prefix_len { IsPrefixLen result.length result.bytes }
+{
+    match loaded {
+        Ok(blocks) => load_line(0, blocks),
+        Err(reason) => load_line(reason.number(), 0),
     }
 }

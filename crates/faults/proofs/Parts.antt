@@ -10,11 +10,12 @@ use lib.ListN.{length, drop_of_length-le}
 use lib.Dec.{ltb}
 use Rattle.text.specs.Expected.{space, lf, comma, colon}
 use Rattle.text.specs.Number.{is_count}
-use Rattle.text.specs.Hash.{hash_bytes}
+use Rattle.text.specs.Hash.{hash_bytes, no_hash}
 use Rattle.text.specs.Read.{on_option, on_result}
 use Rattle.ranges.specs.Ranges.{least_blocks}
-use Rattle.command.specs.Parts.{part_end, places_from, part_at, parts_in, parts_at, parts_field}
+use Rattle.command.specs.Parts.{part_end, places_from, bad_part, part_at, parts_in, parts_at, parts_field}
 use Rattle.command.specs.declared.parts.Part as parts
+use Rattle.command.specs.declared.parts.BadPart.{BadPart}
 use Rattle.faults.specs.Language.{Language, GoesOn, Finding, good, End, Byte, Or}
 use Rattle.faults.specs.Lines.{NumberThat, any, HexDigit, Octets, Hash, Pair, Pairs, RangeSet, LineEnd, Part, PartsOf, Parts}
 use Rattle.faults.proofs.LanguageLaws.{fault_here_lem, same, byte-alive}
@@ -130,10 +131,19 @@ module _ (l : List ℕ) {A : Type 0} (e : Ending A) (g : ℕ → A) (first : ℕ
   abbrev whole : Result ℕ ℕ → Finding
   whole r = e.of (on_result r g e.bad)
 
-  abbrev after_part : ℕ → Ending (Result parts.Part ℕ)
+  abbrev after_part : ℕ → Ending (Result parts.Part BadPart)
   after_part n =
       record {
-        of = λ r. whole (on_result r (λ p. on_option p.next (parts_in least_blocks n l first) (Ok first)) Err);
+        of = λ r. whole (on_result r (λ p. on_option p.next (parts_in least_blocks n l first) (Ok first)) (λ bad. Err bad.at));
+        bad = bad_part no_hash;
+        is = e.is;
+      }
+
+  -- .. where its hash was read
+  abbrev after_places : ℕ → List ℕ → Ending (Result parts.Part ℕ)
+  after_places n hash =
+      record {
+        of = λ r. (after_part n).of (on_result r Ok (bad_part hash));
         bad = Err;
         is = e.is;
       }
@@ -145,10 +155,10 @@ module _ (l : List ℕ) {A : Type 0} (e : Ending A) (g : ℕ → A) (first : ℕ
   parts_found (suc n) at h =
       same parts_made parts_split
       (hash-then l (after_part n) _
-      (λ hash i hi. mark-then l (after_part n) colon _ refl
-      (set_then l (after_part n) _ after-apart
-      (λ places k hk. or_end-then l (after_part n) _ _ (byte-without lf space Parts refl) (λ next. fine)
-      (mark-then l (after_part n) space _ refl
+      (λ hash i hi. mark-then l (after_places n hash) colon _ refl
+      (set_then l (after_places n hash) _ after-apart
+      (λ places k hk. or_end-then l (after_places n hash) _ _ (byte-without lf space Parts refl) (λ next. fine)
+      (mark-then l (after_places n hash) space _ refl
       (parts_found n (k + 1) (omega arith)))))))
 
 -- a space and one P or more, to the line's end

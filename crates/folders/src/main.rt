@@ -2,22 +2,29 @@
 // name, the answer line and the SHA-1 of the image file after it.
 #![tactic(auto)]
 
+ghost use Rattle.std.specs.Prelude.{◌≤◌, length};
+
+use records::buffers::append;
 use records::fields::{field, rest};
-use records::streams::{Hex, read_full, read_input, say};
-use std::alloc::{AllocError, Global};
+use records::streams::{Hex, INPUT_ROOM, read_full, read_input, say};
 use std::fs;
 use std::fs::File;
 use std::rt::Files;
 use std::str::from_utf8;
 
-const IMAGE_ROOM: u64 = 65536;
+// A path has fewer bytes.
+const PATH_ROOM: usize = 4096;
 
-fn in_folder(alloc: Global, folder: &[u8], name: &[u8]) -> Result<Vec<u8>, AllocError> {
-    let mut path = Vec::new(alloc);
-    path.extend_from_slice(folder)?;
-    path.extend_from_slice(b"/")?;
-    path.extend_from_slice(name)?;
-    Ok(path)
+const IMAGE_ROOM: usize = 65536;
+
+// A path that is too long fills the room, and no file has it.
+fn in_folder<'a>(folder: &[u8], name: &[u8], room: &'a mut [u8; PATH_ROOM]) -> &'a [u8]
+    ensures { length result.now ≤ 4096 }
+{
+    let a = append(room, 0, folder);
+    let b = append(room, a, b"/");
+    let n = append(room, b, name);
+    &room[..n]
 }
 
 // std opens no file whose name is no text.
@@ -25,79 +32,68 @@ fn open<R: Files>(rt: &R, path: &[u8]) -> Option<R::File> {
     fs::open(rt, from_utf8(path).ok()?).ok()
 }
 
-fn show_image<R: Files + Print>(alloc: Global, rt: &R, folder: &[u8]) -> Result<(), AllocError> {
-    let path = in_folder(alloc, folder, b"system.img")?;
-    match open(rt, &path) {
-        Some(file) => {
-            let image = read_full(alloc, file, IMAGE_ROOM);
-            let digest = sha1_digest::digest(&image);
+fn show_file<R: Files + Print>(rt: &R, path: &[u8]) {
+    match open(rt, path) {
+        Some(mut file) => {
+            let mut image = [0u8; IMAGE_ROOM];
+            let n = read_full(&mut file, &mut image);
+            let digest = sha1_digest::digest(&image[..n]);
             let _ = println!(rt; "{}", Hex(&digest));
         }
         None => say(rt, b"no image\n"),
     }
-    Ok(())
 }
 
-fn update_folder<R: Files<File = File> + Print + Eprint>(
-    alloc: Global,
-    rt: &R,
-    folder: &[u8],
-) -> Result<(), AllocError> {
-    let list = in_folder(alloc, folder, b"system.transfer.list")?;
-    let image = in_folder(alloc, folder, b"system.img")?;
-    let data = in_folder(alloc, folder, b"system.new.dat")?;
-    let patch = in_folder(alloc, folder, b"system.patch.dat")?;
-    let copy = in_folder(alloc, folder, b"system.img.updated")?;
+fn show_image<R: Files + Print>(rt: &R, folder: &[u8]) {
+    let mut image = [0u8; PATH_ROOM];
+    show_file(rt, in_folder(folder, b"system.img", &mut image));
+}
+
+fn update_folder<R: Files<File = File> + Print + Eprint>(rt: &R, folder: &[u8]) {
+    let mut list = [0u8; PATH_ROOM];
+    let mut image = [0u8; PATH_ROOM];
+    let mut data = [0u8; PATH_ROOM];
+    let mut patch = [0u8; PATH_ROOM];
+    let mut copy = [0u8; PATH_ROOM];
     let paths = package::Paths {
-        list: &list,
-        image: &image,
-        data: &data,
-        patch: &patch,
-        copy: &copy,
+        list: in_folder(folder, b"system.transfer.list", &mut list),
+        image: in_folder(folder, b"system.img", &mut image),
+        data: in_folder(folder, b"system.new.dat", &mut data),
+        patch: in_folder(folder, b"system.patch.dat", &mut patch),
+        copy: in_folder(folder, b"system.img.updated", &mut copy),
     };
     package::update(rt, paths);
-    Ok(())
 }
 
-fn load_folder<R: Files<File = File> + Print + Eprint>(
-    alloc: Global,
-    rt: &R,
-    folder: &[u8],
-) -> Result<(), AllocError> {
-    let file = in_folder(alloc, folder, b"system.simg")?;
-    let image = in_folder(alloc, folder, b"system.img")?;
-    let copy = in_folder(alloc, folder, b"system.img.updated")?;
+fn load_folder<R: Files<File = File> + Print + Eprint>(rt: &R, folder: &[u8]) {
+    let mut file = [0u8; PATH_ROOM];
+    let mut image = [0u8; PATH_ROOM];
+    let mut copy = [0u8; PATH_ROOM];
     let paths = package::load::Paths {
-        file: &file,
-        image: &image,
-        copy: &copy,
+        file: in_folder(folder, b"system.simg", &mut file),
+        image: in_folder(folder, b"system.img", &mut image),
+        copy: in_folder(folder, b"system.img.updated", &mut copy),
     };
     package::load::load_sparse(rt, paths);
-    Ok(())
 }
 
-fn run_folder<R: Files<File = File> + Print + Eprint>(
-    alloc: Global,
-    rt: &R,
-    line: &[u8],
-) -> Result<(), AllocError> {
+fn run_folder<R: Files<File = File> + Print + Eprint>(rt: &R, line: &[u8]) {
     let folder = rest(line, 1);
     say(rt, folder);
     say(rt, b": ");
     match field(line, 0) {
-        b"update" => update_folder(alloc, rt, folder)?,
-        b"load" => load_folder(alloc, rt, folder)?,
+        b"update" => update_folder(rt, folder),
+        b"load" => load_folder(rt, folder),
         _ => {}
     }
-    show_image(alloc, rt, folder)
+    show_image(rt, folder);
 }
 
-fn main(rt: HostRuntime) -> Result<(), AllocError> {
-    let text = read_input(rt.alloc(), &rt);
-    for line in text.split_inclusive(|b| *b == b'\n') {
+fn main(rt: HostRuntime) {
+    let mut text = [0u8; INPUT_ROOM];
+    for line in read_input(&rt, &mut text).split_inclusive(|b| *b == b'\n') {
         if let Some(line) = line.strip_suffix(b"\n") {
-            run_folder(rt.alloc(), &rt, line)?;
+            run_folder(&rt, line);
         }
     }
-    Ok(())
 }

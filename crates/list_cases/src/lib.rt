@@ -24,10 +24,10 @@
 
 use crate::case::Case;
 use crate::say::say_state;
-use records::buffers::{fill_pattern, part};
+use records::buffers::{Buffer, fill_pattern, part};
 use records::fields::{field, number, rest};
-use records::streams::{read_input, say};
-use std::alloc::{AllocError, Global};
+use records::streams::{INPUT_ROOM, read_input, say};
+use transfer_list::open;
 
 mod areas;
 mod case;
@@ -36,18 +36,23 @@ mod saves;
 mod say;
 mod states;
 
+// One byte more than a list may have.
+const LIST_ROOM: usize = 4194305;
+
+const AREA_ROOM: usize = 65536;
+
 const DATA_ROOM: usize = 65536;
 
 // More calls than any list of the cases stops.
 const MOST_CALLS: usize = 65536;
 
 // What a line of input does.
-fn step(out: &impl Print, line: &[u8], data: &[u8], case: &mut Case) -> Result<(), AllocError> {
+fn step(out: &impl Print, line: &[u8], data: &[u8], case: &mut Case<'_>) {
     match field(line, 0) {
         b"case" => {
             say(out, rest(line, 1));
             say(out, b"\n");
-            case.start()?;
+            case.start();
         }
         b"open" => case.open(),
         b"call" => case.calls(out, piece_in(line, data), MOST_CALLS),
@@ -55,12 +60,11 @@ fn step(out: &impl Print, line: &[u8], data: &[u8], case: &mut Case) -> Result<(
             case.calls(out, piece_in(line, data), 1);
             say_state(out, &case.state);
         }
-        b"run" => case.run(out, line, part(data, 0, number(line, 1)))?,
+        b"run" => case.run(out, line, part(data, 0, number(line, 1))),
         b"save" => saves::save_and_restore(out, &mut case.state),
         b"damage" => saves::damage(out, &case.state),
-        _ => case.lend(line)?,
+        _ => case.lend(line),
     }
-    Ok(())
 }
 
 // The new data that a `call` or a `step` names.
@@ -69,15 +73,29 @@ fn piece_in<'a>(line: &[u8], data: &'a [u8]) -> &'a [u8] {
 }
 
 // Reads standard input and runs it.
-pub fn run_cases(alloc: Global, rt: &(impl Input + Print)) -> Result<(), AllocError> {
-    let text = read_input(alloc, rt);
-    let mut data = vec![in alloc; 0; DATA_ROOM]?;
+pub fn run_cases<R: Input + Print>(rt: &R) {
+    let mut text = [0u8; INPUT_ROOM];
+    let mut list = [0u8; LIST_ROOM];
+    let mut image = [0u8; AREA_ROOM];
+    let mut stash = [0u8; AREA_ROOM];
+    let mut work = [0u8; AREA_ROOM];
+    let mut result = [0u8; AREA_ROOM];
+    let mut patch = [0u8; AREA_ROOM];
+    let mut data = [0u8; DATA_ROOM];
     fill_pattern(&mut data);
-    let mut case = Case::new(alloc);
-    for line in text.split_inclusive(|b| *b == b'\n') {
+    // Nothing is lent, and the state is that of an empty list.
+    let mut case = Case {
+        list: Buffer::new(&mut list),
+        image: Buffer::new(&mut image),
+        stash: Buffer::new(&mut stash),
+        work: Buffer::new(&mut work),
+        result: Buffer::new(&mut result),
+        patch: Buffer::new(&mut patch),
+        state: open(b"", 0, 0, 0, 0, 0),
+    };
+    for line in read_input(rt, &mut text).split_inclusive(|b| *b == b'\n') {
         if let Some(line) = line.strip_suffix(b"\n") {
-            step(rt, line, &data, &mut case)?;
+            step(rt, line, &data, &mut case);
         }
     }
-    Ok(())
 }

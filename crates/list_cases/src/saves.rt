@@ -1,6 +1,6 @@
 // Saved forms, read back as they are and damaged.
 use records::buffers::part;
-use saved::{SAVED_BYTES, restore, save};
+use saved::{SAVED_BYTES, restore, restore_in_place, save, save_in_place};
 use state::State;
 use std::fmt;
 
@@ -26,19 +26,6 @@ enum Read {
     Refused,
     Other,
     Neither,
-}
-
-fn read_back(bytes: &[u8]) -> Read {
-    match restore(bytes) {
-        Err(_) => Read::Refused,
-        Ok(state) => {
-            if bytes == save(&state).as_slice() {
-                Read::Other
-            } else {
-                Read::Neither
-            }
-        }
-    }
 }
 
 // As a number.
@@ -71,30 +58,57 @@ impl Tally {
     }
 }
 
-// Each byte altered in turn.
-fn alter_each(saved: &[u8; SAVED_BYTES]) -> Tally {
-    let mut bytes = *saved;
-    let mut tally = Tally::default();
-    for (k, byte) in saved.iter().enumerate() {
-        bytes[k] = *byte ^ 1;
-        tally.count(read_back(&bytes));
-        bytes[k] = *byte;
-    }
-    tally
+// The state that damaged bytes are read over, and the saved form of it: one of each for all of them, since there are thousands.
+#[derive(Clone, Copy)]
+struct Reader {
+    state: State,
+    form: [u8; SAVED_BYTES],
 }
 
-fn read_longer(saved: &[u8; SAVED_BYTES]) -> Read {
-    let mut longer = [0; LONGER];
-    longer[..SAVED_BYTES].copy_from_slice(saved);
-    read_back(&longer)
+impl Reader {
+    fn read_back(&mut self, bytes: &[u8]) -> Read {
+        match restore_in_place(bytes, &mut self.state) {
+            Err(_) => Read::Refused,
+            Ok(()) => {
+                save_in_place(&mut self.form, &self.state);
+                if bytes == self.form.as_slice() {
+                    Read::Other
+                } else {
+                    Read::Neither
+                }
+            }
+        }
+    }
+
+    // Each byte altered in turn.
+    fn alter_each(&mut self, saved: &[u8; SAVED_BYTES]) -> Tally {
+        let mut bytes = *saved;
+        let mut tally = Tally::default();
+        for (k, byte) in saved.iter().enumerate() {
+            bytes[k] = *byte ^ 1;
+            tally.count(self.read_back(&bytes));
+            bytes[k] = *byte;
+        }
+        tally
+    }
+
+    fn read_longer(&mut self, saved: &[u8; SAVED_BYTES]) -> Read {
+        let mut longer = [0; LONGER];
+        longer[..SAVED_BYTES].copy_from_slice(saved);
+        self.read_back(&longer)
+    }
 }
 
 // Each byte altered in turn, a byte cut off, and one added.
 pub(crate) fn damage(out: &impl Print, state: &State) {
     let saved = save(state);
-    let t = alter_each(&saved);
-    let short = read_back(part(&saved, 0, SAVED_BYTES - 1));
-    let long = read_longer(&saved);
+    let mut reader = Reader {
+        state: *state,
+        form: saved,
+    };
+    let t = reader.alter_each(&saved);
+    let short = reader.read_back(part(&saved, 0, SAVED_BYTES - 1));
+    let long = reader.read_longer(&saved);
     let _ = println!(out;
         "  damaged: refused {}, other states {}, neither {}; a byte short {short}, a byte long {long}",
         t.refused, t.other, t.neither

@@ -9,7 +9,10 @@ ghost use Rattle.little_endian.specs.LittleEndian.{two_at, four_at, eight_at};
 fn bytes_at<const N: usize>(s: &[u8], at: usize) -> Option<[u8; N]>
     ensures { MatchOption result (length s.now < at + N) (λ bytes. (at + N ≤ length s.now) × (bytes ≡ take N (drop at s.now))) }
 {
-    s.get(at..)?.first_chunk().copied()
+    if s.len() < N || s.len() - N < at {
+        return None;
+    }
+    s[at..at + N].first_chunk().copied()
 }
 
 // The number at a position; 0 where its bytes are not all there.

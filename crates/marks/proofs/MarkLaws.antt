@@ -5,12 +5,13 @@ use mathlib.Core.Bool.{Bool, true, false}
 use mathlib.Core.List.{List, ◌++◌}
 use Prim.Native.Nat.{ℕ, suc, ◌+◌, ◌-◌, ◌*◌, ◌/◌, ◌%◌, ◌^◌, ◌≤◌, ◌<◌, min}
 use native.Mathlib.Nat.{mod-lt, mod-le, zero-div, add-div_right, add-mul-div_right, div-add-mod', div-lt_iff_lt-mul, pow-suc}
+use native.Mathlib.Numerals.{add-one}
 use native.Mathlib.Omega.{arith}
 use lib.Pow.{pow_pos, pow-add, shr-shr, split, shl_exact}
 use lib.Bits.{bit_and, bit_or, and_block, and_mask, and_zero_r, or_disjoint}
 use lib.ListN.{length, get_or, set, drop, replicate, length-append, length-drop, length-set, length-replicate, get_or-replicate}
-use lib.ListN.{take, length-take, get_or-append, get_or-eq_default}
-use lib.Seq.{get_or-set_same, get_or-set_other}
+use lib.ListN.{take, length-take, get_or-append, get_or-eq_default, replicate-append-replicate}
+use lib.Seq.{drop-cons, append_snoc, set_at, get_or-set_same, get_or-set_other}
 use lib.Dec.{ltb, eqb}
 use borrow.Author.Tests.{ltb-true, ltb-false, lt-ltb, le-ltb, eqb-true, eqb-false, eq-eqb, ne_eqb}
 use Rattle.text.specs.Choice.{both, no}
@@ -175,6 +176,19 @@ module _ (marks : List ℕ) where
       let row = row_of (cleared marks n) p in
       let z : get_or (cleared marks n) row 0 ≡ 0 = byte-cleared n row (omega (arith, mod-le p (length (cleared marks n)))) in
       rw (z, zero-div (2 ^ bit_of (cleared marks n) p))
+
+  -- a store clears one byte more
+  pub clear_more : (i : ℕ) → i < length marks →
+      set (replicate i 0 ++ drop i marks) i 0 ≡ replicate (i + 1) 0 ++ drop (i + 1) marks
+  clear_more i h =
+      ap (λ (r : List ℕ). set (replicate i 0 ++ r) i 0) (drop-cons marks i 0 h)
+      ∙ set_at (replicate i 0) (get_or marks i 0) (drop (suc i) marks) 0 i (length-replicate {A = ℕ} i 0)
+      ∙ sym (append_snoc (replicate i 0) 0 (drop (suc i) marks))
+      ∙ rw (← replicate-append-replicate {A = ℕ} i 1 0, add-one)
+
+  pub clear_whole : (n i : ℕ) → i ≡ min n (length marks) → replicate i 0 ++ drop i marks ≡ cleared marks n
+  unfolding cleared
+  clear_whole n i e = rw e
 
   -- its first bytes 0 and the others as they are
   pub clear_part : (n i : ℕ) → i ≡ min n (length marks) → replicate (length (take i marks)) 0 ++ drop i marks ≡ cleared marks n

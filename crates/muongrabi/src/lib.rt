@@ -231,9 +231,10 @@ pub fn muongrabi_restore(
     if let Err(reason) = restore_in_place(bytes, &mut state) {
         return reason.number();
     }
+    // The numbers first: else a table is compiled to a `memmove` from the lent bytes, as these may lie over it for all the compiler knows.
+    *numbers = numbers_of(&state);
     *hashes = state.table.hashes;
     *sizes = state.table.sizes;
-    *numbers = numbers_of(&state);
     0
 }
 

@@ -9,23 +9,22 @@
 //   open                                   opens it
 #![tactic(auto)]
 
-use records::buffers::put;
+use records::buffers::Buffer;
 use records::fields::{field, number, rest};
-use records::streams::{read_input, say};
+use records::streams::{INPUT_ROOM, read_input, say};
 use state::Lengths;
-use std::alloc::AllocError;
 
 // One byte more than a list may have.
 const LIST_ROOM: usize = 4194305;
 
 // What is opened: a list, over areas and patch data of these lengths.
 #[derive(Drop)]
-struct Case {
-    list: Vec<u8>,
+struct Case<'a> {
+    list: Buffer<'a>,
     lengths: Lengths,
 }
 
-impl Case {
+impl Case<'_> {
     fn start(&mut self) {
         self.list.clear();
         self.lengths = Lengths {
@@ -40,7 +39,14 @@ impl Case {
 
     fn open(&self, out: &impl Print) {
         let l = self.lengths;
-        let opened = transfer_list::open(&self.list, l.image, l.stash, l.work, l.result, l.patch);
+        let opened = transfer_list::open(
+            self.list.bytes(),
+            l.image,
+            l.stash,
+            l.work,
+            l.result,
+            l.patch,
+        );
         let refusal = opened.refusal;
         let _ = if refusal.number == 0 {
             println!(out; "accepted")
@@ -66,7 +72,7 @@ fn lengths_in(line: &[u8]) -> Lengths {
 }
 
 // What a line of input does.
-fn step(out: &impl Print, line: &[u8], case: &mut Case) -> Result<(), AllocError> {
+fn step(out: &impl Print, line: &[u8], case: &mut Case<'_>) {
     match field(line, 0) {
         b"case" => {
             say(out, rest(line, 1));
@@ -75,21 +81,20 @@ fn step(out: &impl Print, line: &[u8], case: &mut Case) -> Result<(), AllocError
         }
         b"areas" => case.lengths = lengths_in(line),
         b"open" => case.open(out),
-        _ => put(&mut case.list, line, LIST_ROOM)?,
+        _ => case.list.put(line),
     }
-    Ok(())
 }
 
-fn main(rt: HostRuntime) -> Result<(), AllocError> {
-    let text = read_input(rt.alloc(), &rt);
+fn main(rt: HostRuntime) {
+    let mut text = [0u8; INPUT_ROOM];
+    let mut list = [0u8; LIST_ROOM];
     let mut case = Case {
-        list: Vec::new(rt.alloc()),
+        list: Buffer::new(&mut list),
         lengths: lengths_in(b""),
     };
-    for line in text.split_inclusive(|b| *b == b'\n') {
+    for line in read_input(&rt, &mut text).split_inclusive(|b| *b == b'\n') {
         if let Some(line) = line.strip_suffix(b"\n") {
-            step(&rt, line, &mut case)?;
+            step(&rt, line, &mut case);
         }
     }
-    Ok(())
 }

@@ -4,7 +4,7 @@
 // No contract can speak of a file. What is decided about files is in the crate `decisions`, where each function has its equation.
 #![tactic(auto)]
 
-ghost use Rattle.std.specs.Prelude.{◌≡◌, ◌≤◌, length};
+ghost use Rattle.std.specs.Prelude.{◌≤◌, length};
 ghost use Rattle.decisions.specs.Program.{piece_bytes};
 
 use crate::files::{open_read, open_update};
@@ -12,7 +12,7 @@ use crate::messages::Told;
 use crate::read::{check_opened, fill, read_file};
 use crate::standard::hold_standard;
 use crate::write_back::write_back;
-use decisions::answer::Answer;
+use decisions::answer::answer_line;
 use decisions::{
     AREA_BYTES, IMAGE_BYTES, LIST_BYTES, PATCH_BYTES, calls_on, check_sizes, is_stop, open_list,
     patch_length,
@@ -54,8 +54,8 @@ pub struct Paths<'a> {
 
 // An answer that cannot be printed is told nowhere.
 fn say(rt: &impl Print, outcome: Outcome, taken: u64) {
-    let answer = Answer { outcome, taken };
-    let _ = print!(rt; "{answer}");
+    let line = answer_line(outcome, taken);
+    let _ = rt.write_all(&line.bytes[..line.length]);
 }
 
 fn say_refused(rt: &impl Print, refusal: Refusal) {
@@ -72,7 +72,9 @@ fn call_on(
     patch: &[u8],
     piece: &[u8],
     state: &mut State,
-) -> Called {
+) -> Called
+    ensures { result.taken ≤ length piece.now }
+{
     let mut taken = 0;
     let mut outcome = Outcome::More;
     for _ in 0..MOST_TURNS {
@@ -86,7 +88,9 @@ fn call_on(
     Called { outcome, taken }
 }
 
-// One piece after the other; the first is read already. What the calls came to, and all bytes taken.
+// One piece after the other; the first is read already. What the calls came to, and all bytes taken. Of its own, so that a refusal needs no
+// room for the areas.
+#[inline(never)]
 fn run<F: Read>(
     rt: &impl Eprint,
     list: &[u8],
@@ -98,7 +102,7 @@ fn run<F: Read>(
     data_path: &[u8],
     opened: State,
 ) -> Result<(Outcome, u64), Told>
-    requires { (first ≤ length piece.old) × (length piece.old ≡ piece_bytes) }
+    requires { (first ≤ length piece.old) × (length piece.old ≤ piece_bytes) }
 {
     let mut stash = [0; AREA_BYTES];
     let mut work = [0; AREA_BYTES];
@@ -117,7 +121,7 @@ fn run<F: Read>(
             &piece[..n],
             &mut state,
         );
-        taken = taken.saturating_add(called.taken as u64);
+        taken += called.taken as u64;
         if !calls_on(called.outcome, n) {
             return Ok((called.outcome, taken));
         }

@@ -8,7 +8,7 @@ use crate::messages::Told;
 use crate::read::{check_opened, fill, read_file};
 use crate::standard::hold_standard;
 use crate::write_back::{make_image, write_back};
-use decisions::answer::LoadAnswer;
+use decisions::answer::loading_line;
 use decisions::loading::{SPARSE_BYTES, TOO_LARGE, image_bytes};
 use state::limits::BLOCK_BYTES;
 use state::refusals::Reason;
@@ -28,8 +28,8 @@ pub struct Paths<'a> {
 
 // An answer that cannot be printed is told nowhere.
 fn say(rt: &impl Print, blocks: Result<usize, Reason>) {
-    let answer = LoadAnswer(blocks);
-    let _ = print!(rt; "{answer}");
+    let line = loading_line(blocks);
+    let _ = rt.write_all(&line.bytes[..line.length]);
 }
 
 fn write_image<R: Files + Eprint>(

@@ -53,7 +53,9 @@ pub(crate) fn read_file<'a, R: Files + Eprint>(
     rt: &R,
     path: &[u8],
     buf: &'a mut [u8],
-) -> Result<&'a [u8], Told> {
+) -> Result<&'a [u8], Told>
+    ensures { IfOk result (λ bytes. length bytes.now ≤ length buf.old) }
+{
     let mut file = check_opened(rt, open_read(rt, path), path)?;
     let n = fill(rt, &mut file, path, buf)?;
     Ok(&buf[..n])

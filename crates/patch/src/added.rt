@@ -4,6 +4,7 @@ ghost use Rattle.patch.specs.Position.{origin};
 ghost use Rattle.patch.specs.Added.{added};
 
 use crate::position::ORIGIN;
+use copy::copy_in;
 
 // Patch bytes added to the first bytes of a source that has as many.
 #[tactic(auto, using(crate::proofs::AddedLaws::add_more, crate::proofs::AddedLaws::add_all))]
@@ -23,7 +24,7 @@ fn add_first(to: &mut [u8], source: &[u8], adds: &[u8])
 {
     let inside = source.len().min(adds.len());
     add_each(&mut to[..inside], source, &adds[..inside]);
-    to[inside..].copy_from_slice(&adds[inside..]);
+    copy_in(&mut to[inside..], &adds[inside..]);
 }
 
 // The same from any position: before the source too they stay as they are.
@@ -33,7 +34,7 @@ pub(crate) fn add_from(to: &mut [u8], source: &[u8], adds: &[u8], position: usiz
 {
     if position < ORIGIN {
         let before = (ORIGIN - position).min(adds.len());
-        to[..before].copy_from_slice(&adds[..before]);
+        copy_in(&mut to[..before], &adds[..before]);
         add_first(&mut to[before..], source, &adds[before..]);
     } else {
         let start = (position - ORIGIN).min(source.len());

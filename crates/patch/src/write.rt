@@ -5,6 +5,7 @@ ghost use Rattle.patch.specs.Patch.{records_of, record_result, record_size, resu
 use crate::added::add_from;
 use crate::position::ORIGIN;
 use crate::records::{Record, read_record};
+use copy::copy_in;
 
 // What a record makes, over a part that has room for just that.
 fn write_record(part: &mut [u8], patch: &[u8], source: &[u8], found: Record)
@@ -19,7 +20,7 @@ fn write_record(part: &mut [u8], patch: &[u8], source: &[u8], found: Record)
         &patch[found.adds..found.extras],
         found.position,
     );
-    part[n..].copy_from_slice(&patch[found.extras..found.end]);
+    copy_in(&mut part[n..], &patch[found.extras..found.end]);
 }
 
 // The records over a result of their sizes, one after the other, up to one that is malformed: of a checked patch none is. Each says where the

@@ -1,21 +1,32 @@
 // The input that describes cases, and what is printed of them.
-use std::alloc::Global;
+ghost use Rattle.std.specs.Prelude.{◌≤◌, length};
+
 use std::fmt;
 use std::io::Read;
 
 // The most bytes of input that are read.
-const INPUT_ROOM: u64 = 65536;
+pub const INPUT_ROOM: usize = 65536;
 
-// Reads until there is no room, the input ends or a read fails.
-pub fn read_full(alloc: Global, input: impl Read + Drop, room: u64) -> Vec<u8> {
-    let mut bytes = Vec::new(alloc);
-    let _ = input.take(room).read_to_end(&mut bytes);
-    bytes
+// Reads until the buffer is full, the input ends or a read fails, and answers how many bytes that came to.
+pub fn read_full(input: &mut impl Read, buf: &mut [u8]) -> usize
+    ensures { result ≤ length buf.new }
+{
+    let mut n = 0;
+    while n < buf.len() {
+        match input.read(&mut buf[n..]) {
+            Ok(0) | Err(_) => return n,
+            Ok(more) => n += more,
+        }
+    }
+    n
 }
 
-// Standard input.
-pub fn read_input(alloc: Global, rt: &impl Input) -> Vec<u8> {
-    read_full(alloc, rt.reader(), INPUT_ROOM)
+// Standard input, as much of it as there is room for.
+pub fn read_input<'a>(rt: &impl Input, room: &'a mut [u8; INPUT_ROOM]) -> &'a [u8]
+    ensures { length result.now ≤ 65536 }
+{
+    let n = read_full(&mut rt.reader(), room);
+    &room[..n]
 }
 
 // What cannot be printed is missing where the output is compared, and is told nowhere else.

@@ -1,16 +1,22 @@
--- A number below the bound compares with a bounded sum as with the whole.
+-- A number below the bound compares with a bounded sum as with the whole; and the code's "not" is `no`.
 -- Assumes nothing.
-use mathlib.Core.Path.{◌≡◌}
+use mathlib.Core.Path.{◌≡◌, refl}
+use mathlib.Core.Bool.{Bool, true, false, not}
 use Prim.Native.Nat.{ℕ, ◌+◌, ◌<◌, min}
 use native.Mathlib.Omega.{arith}
 use lib.Dec.{leb, ltb, eqb}
 use lib.ListN.{length, take}
 use Rattle.std.proofs.lemmas.Grind.{common_steps}
+use Rattle.text.specs.Choice.{no}
 use Rattle.state.specs.Limits.{most_stashes}
 use Rattle.state.specs.Stashes.{held_in, blocks_held}
 use Rattle.state.specs.Sums.{bound, bounded}
 use Rattle.state.specs.declared.stashes.Table.{Table}
 use Rattle.state.proofs.TableLaws.{length-held, take-held}
+
+pub not-no : (a : Bool) → not a ≡ no a
+not-no true = refl
+not-no false = refl
 
 module _ (m n : ℕ) (l : n < bound) where
   pub eqb_bounded : eqb (bounded m) n ≡ eqb m n
@@ -19,7 +25,7 @@ module _ (m n : ℕ) (l : n < bound) where
   pub leb_bounded : leb (bounded m) n ≡ leb m n
   leb_bounded = grind (arith, common_steps)
 
-  ltb_bounded : ltb n (bounded m) ≡ ltb n m
+  pub ltb_bounded : ltb n (bounded m) ≡ ltb n m
   ltb_bounded = grind (arith, common_steps)
 
 -- one number more, and a sum that was cut before

@@ -8,6 +8,7 @@ use lib.ListN.{length}
 use Rattle.std.specs.Prelude.{Option, Some, None, Result, Ok}
 use Rattle.ranges.specs.Ranges.{least_again}
 use Rattle.command.specs.declared.parts.Part.{Part}
+use Rattle.command.specs.declared.parts.BadPart.{BadPart}
 use Rattle.command.specs.Parts.{part_at}
 use Rattle.command.proofs.PartLaws.{part_next}
 
@@ -16,7 +17,7 @@ abbrev pub unread : List ℕ → Option ℕ → ℕ
 unread l (Some at) = suc (length l - at)
 unread l None = 0
 
-module _ (l : List ℕ) {at : ℕ} {r : Result Part ℕ} (read : r ≡ part_at least_again l at) {next : Option ℕ} (here : next ≡ Some at) where
+module _ (l : List ℕ) {at : ℕ} {r : Result Part BadPart} (read : r ≡ part_at least_again l at) {next : Option ℕ} (here : next ≡ Some at) where
   pub unread-less : {p : Part} → r ≡ Ok p → unread l p.next < unread l next
   unread-less {p} e = rw here (go p.next refl)
     where

@@ -19,12 +19,12 @@ use ranges::walk::{next_block, past_range, walk_from};
 fn take_range(from: usize, to: usize, n: usize, marks: &mut [u8; MARK_BYTES]) -> bool
     ensures { Takes n marks.old marks.new (span from (to - from)) result }
 {
-    for p in from..to {
-        if n <= p || !take_place(marks, p) {
+    for p in from..to.min(n).max(from) {
+        if !take_place(marks, p) {
             return false;
         }
     }
-    true
+    to <= n || to <= from
 }
 
 // Takes the places of the set at a position; false where one is at n or above, or taken already.

@@ -1,8 +1,6 @@
 // Runs the lists that standard input describes.
 #![tactic(auto)]
 
-use std::alloc::AllocError;
-
-fn main(rt: HostRuntime) -> Result<(), AllocError> {
-    list_cases::run_cases(rt.alloc(), &rt)
+fn main(rt: HostRuntime) {
+    list_cases::run_cases(&rt);
 }

@@ -1,11 +1,11 @@
 -- Laws of the message schedule. Assumes nothing.
-use Rattle.std.proofs.Common.{◌≡◌, ℕ, ◌+◌, ◌-◌, ◌*◌, ◌<◌, ◌≤◌, List, length, get_or, take, set, add-one, zero-add, arith, get_or-take, take-suc-set, le-ltb, lt-ltb}
+use Rattle.std.proofs.Common.{◌≡◌, ℕ, ◌+◌, ◌-◌, ◌*◌, ◌<◌, ◌≤◌, List, length, get_or, take, set, add-one, arith, get_or-take, take-suc-set, le-ltb, lt-ltb}
 use lib.Bits.{bit_xor}
 use Rattle.sha1_digest.specs.Sha1 as S
 
-pub next_first : (p W : List ℕ) (t : ℕ) → t < 16 → S.next p 0 W t ≡ S.word p (4 * t)
+pub next_first : (p : List ℕ) (i : ℕ) (W : List ℕ) (t : ℕ) → t < 16 → S.next p i W t ≡ S.word p (i + 4 * t)
 unfolding S.next
-next_first p W t h = simp (lt-ltb t 16 h, zero-add)
+next_first p i W t h = simp (lt-ltb t 16 h)
 
 pub next_later : (p : List ℕ) (i : ℕ) (W w : List ℕ) (t : ℕ) → 16 ≤ t → take t w ≡ W
     → S.rotl 1 (bit_xor (bit_xor (bit_xor (get_or w (t - 3) 0) (get_or w (t - 8) 0)) (get_or w (t - 14) 0)) (get_or w (t - 16) 0))

@@ -1,5 +1,5 @@
 -- Laws of words and their bytes. Assumes nothing.
-use Rattle.std.proofs.Common.{◌≡◌, ℕ, zero, suc, ◌+◌, ◌*◌, ◌/◌, ◌%◌, ◌^◌, ◌<◌, get_or, sym, refl, ap, ◌∙◌, arith}
+use Rattle.std.proofs.Common.{◌≡◌, ℕ, zero, suc, ◌+◌, ◌-◌, ◌*◌, ◌/◌, ◌%◌, ◌^◌, ◌<◌, get_or, sym, refl, ap, ◌∙◌, arith}
 use Rattle.std.specs.Int.{w32, w64, to_be_bytes}
 use native.Mathlib.Nat.{mod-add-mod}
 use lib.Bits.{bit_or, or_shifted}
@@ -41,6 +41,12 @@ unfolding S.bytes
 be_bytes_eight x =
     let e : x ≡ x / 1 = omega arith in
     cc
+
+pub bytes_at_lem : (n x j : ℕ) → j < n → get_or (S.bytes n x) j 0 ≡ x / 2 ^ (8 * (n - 1 - j)) % 256
+unfolding S.bytes
+bytes_at_lem zero x j h = absurd (omega arith)
+bytes_at_lem (suc n) x zero h = ap (λ (k : ℕ). x / 2 ^ k % 256) (omega arith)
+bytes_at_lem (suc n) x (suc j) h = bytes_at_lem n x j (omega arith) ∙ ap (λ (k : ℕ). x / 2 ^ k % 256) (omega arith)
 
 pub bytes_below : (n x k : ℕ) → get_or (S.bytes n x) k 0 < 256
 unfolding S.bytes

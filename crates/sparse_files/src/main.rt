@@ -16,12 +16,11 @@
 //   every                    reads each part of the file from its start, and at last the whole: the numbers, and from which length on
 #![tactic(auto)]
 
-use records::buffers::{append, fill_pattern, part};
+use records::buffers::{Buffer, fill_pattern, part};
 use records::fields::{field, number, rest};
-use records::streams::{Hex, read_input, say};
+use records::streams::{Hex, INPUT_ROOM, read_input, say};
 use state::limits::BLOCK_BYTES;
 use state::refusals::Reason;
-use std::alloc::AllocError;
 
 const FILE_ROOM: usize = 65536;
 
@@ -29,16 +28,9 @@ const IMAGE_ROOM: usize = 65536;
 
 // A sparse file, and the bytes of the image that it is read over.
 #[derive(Drop)]
-struct Case {
-    file: Vec<u8>,
-    image: Vec<u8>,
-}
-
-// Puts bytes in the place of those at a position, as far as there are any.
-fn put_over(file: &mut [u8], at: usize, bytes: &[u8]) {
-    for (to, from) in file.iter_mut().skip(at).zip(bytes) {
-        *to = *from;
-    }
+struct Case<'a> {
+    file: Buffer<'a>,
+    image: Buffer<'a>,
 }
 
 // A number's lowest bytes, the lowest first.
@@ -46,93 +38,82 @@ fn low_bytes(n: usize) -> [u8; 8] {
     n.to_le_bytes()
 }
 
-impl Case {
-    fn start(&mut self) -> Result<(), AllocError> {
+impl Case<'_> {
+    fn start(&mut self) {
         self.file.clear();
-        self.image_of(3 * BLOCK_BYTES)
+        self.image.set_length(3 * BLOCK_BYTES);
     }
 
-    fn image_of(&mut self, bytes: usize) -> Result<(), AllocError> {
-        self.image.resize(bytes.min(IMAGE_ROOM), 0)
+    fn two(&mut self, n: usize) {
+        self.file.append(&low_bytes(n)[..2]);
     }
 
-    fn add(&mut self, bytes: &[u8]) -> Result<(), AllocError> {
-        append(&mut self.file, bytes, FILE_ROOM)
+    fn four(&mut self, n: usize) {
+        self.file.append(&low_bytes(n)[..4]);
     }
 
-    fn two(&mut self, n: usize) -> Result<(), AllocError> {
-        self.add(&low_bytes(n)[..2])
+    fn header(&mut self, blocks: usize, chunks: usize) {
+        self.four(0xED26FF3A);
+        self.four(1);
+        self.two(28);
+        self.two(12);
+        self.four(4096);
+        self.four(blocks);
+        self.four(chunks);
+        self.four(0);
     }
 
-    fn four(&mut self, n: usize) -> Result<(), AllocError> {
-        self.add(&low_bytes(n)[..4])
-    }
-
-    fn header(&mut self, blocks: usize, chunks: usize) -> Result<(), AllocError> {
-        self.four(0xED26FF3A)?;
-        self.four(1)?;
-        self.two(28)?;
-        self.two(12)?;
-        self.four(4096)?;
-        self.four(blocks)?;
-        self.four(chunks)?;
-        self.four(0)
-    }
-
-    fn chunk(&mut self, tag: usize, blocks: usize, bytes: usize) -> Result<(), AllocError> {
-        self.four(tag)?;
-        self.four(blocks)?;
-        self.four(bytes)
+    fn chunk(&mut self, tag: usize, blocks: usize, bytes: usize) {
+        self.four(tag);
+        self.four(blocks);
+        self.four(bytes);
     }
 
     // n bytes, each `step` more than the last one, modulo 256.
-    fn bytes(&mut self, n: usize, first: u8, step: u8) -> Result<(), AllocError> {
+    fn bytes(&mut self, n: usize, first: u8, step: u8) {
         let mut value = first;
-        for _ in 0..n.min(FILE_ROOM) {
-            self.add(&[value])?;
+        for byte in self.file.more(n) {
+            *byte = value;
             value = value.wrapping_add(step);
         }
-        Ok(())
     }
 
-    fn raw(&mut self, blocks: usize) -> Result<(), AllocError> {
+    fn raw(&mut self, blocks: usize) {
         let bytes = BLOCK_BYTES * blocks.min(FILE_ROOM);
-        self.chunk(0xCAC1, blocks, 12 + bytes)?;
-        self.bytes(bytes, 3, 5)
+        self.chunk(0xCAC1, blocks, 12 + bytes);
+        self.bytes(bytes, 3, 5);
     }
 
-    fn fill(&mut self, line: &[u8]) -> Result<(), AllocError> {
-        self.chunk(0xCAC2, number(line, 1), 16)?;
+    fn fill(&mut self, line: &[u8]) {
+        self.chunk(0xCAC2, number(line, 1), 16);
         for k in 2..6 {
-            self.add(&low_bytes(number(line, k))[..1])?;
+            self.file.append(&low_bytes(number(line, k))[..1]);
         }
-        Ok(())
     }
 
     // What a line adds to the file, or changes in it.
-    fn put(&mut self, line: &[u8]) -> Result<(), AllocError> {
+    fn put(&mut self, line: &[u8]) {
         let n = number(line, 1);
         let m = number(line, 2);
         match field(line, 0) {
-            b"header" => self.header(n, m)?,
-            b"raw" => self.raw(n)?,
-            b"fill" => self.fill(line)?,
-            b"keep" => self.chunk(0xCAC3, n, 12)?,
-            b"chunk" => self.chunk(n, m, number(line, 3))?,
-            b"bytes" => self.bytes(n, low_bytes(m)[0], 0)?,
-            b"put2" => put_over(&mut self.file, n, &low_bytes(m)[..2]),
-            b"put4" => put_over(&mut self.file, n, &low_bytes(m)[..4]),
-            b"cut" => self.file.truncate(n),
+            b"header" => self.header(n, m),
+            b"raw" => self.raw(n),
+            b"fill" => self.fill(line),
+            b"keep" => self.chunk(0xCAC3, n, 12),
+            b"chunk" => self.chunk(n, m, number(line, 3)),
+            b"bytes" => self.bytes(n, low_bytes(m)[0], 0),
+            b"put2" => self.file.put_over(n, &low_bytes(m)[..2]),
+            b"put4" => self.file.put_over(n, &low_bytes(m)[..4]),
+            b"cut" => self.file.set_length(n),
             _ => {}
         }
-        Ok(())
     }
 
     fn load(&mut self, out: &impl Print) {
-        fill_pattern(&mut self.image);
-        let before = sha1_digest::digest(&self.image);
-        let loaded = sparse::load(&self.file, &mut self.image);
-        let after = sha1_digest::digest(&self.image);
+        fill_pattern(self.image.bytes_mut());
+        let before = sha1_digest::digest(self.image.bytes());
+        let loaded = sparse::load(self.file.bytes(), self.image.bytes_mut());
+        let after = sha1_digest::digest(self.image.bytes());
         let _ = match loaded {
             Ok(()) => println!(out; "loaded {}", Hex(&after)),
             Err(reason) => {
@@ -146,8 +127,9 @@ impl Case {
     // Each part of the file but the whole; a number is printed where it is another one than before.
     fn load_parts(&mut self, out: &impl Print) {
         let mut last = Ok(());
-        for n in 0..self.file.len() {
-            let loaded = sparse::load(part(&self.file, 0, n), &mut self.image);
+        let file = self.file.bytes();
+        for n in 0..file.len() {
+            let loaded = sparse::load(part(file, 0, n), self.image.bytes_mut());
             if loaded != last {
                 let k = number_of(loaded);
                 let _ = print!(out; "refused {k} from {n}, ");
@@ -157,10 +139,10 @@ impl Case {
     }
 
     fn every(&mut self, out: &impl Print) {
-        fill_pattern(&mut self.image);
-        let before = sha1_digest::digest(&self.image);
+        fill_pattern(self.image.bytes_mut());
+        let before = sha1_digest::digest(self.image.bytes());
         self.load_parts(out);
-        if before != sha1_digest::digest(&self.image) {
+        if before != sha1_digest::digest(self.image.bytes()) {
             say(out, b"changed, ");
         }
         self.load(out);
@@ -185,32 +167,32 @@ fn check(out: &impl Print, file: &[u8], image: usize) {
 }
 
 // What a line of input does.
-fn step(out: &impl Print, line: &[u8], case: &mut Case) -> Result<(), AllocError> {
+fn step(out: &impl Print, line: &[u8], case: &mut Case<'_>) {
     match field(line, 0) {
         b"case" => {
             say(out, rest(line, 1));
             say(out, b": ");
-            case.start()?;
+            case.start();
         }
-        b"image" => case.image_of(number(line, 1))?,
+        b"image" => case.image.set_length(number(line, 1)),
         b"load" => case.load(out),
-        b"check" => check(out, &case.file, number(line, 1)),
+        b"check" => check(out, case.file.bytes(), number(line, 1)),
         b"every" => case.every(out),
-        _ => case.put(line)?,
+        _ => case.put(line),
     }
-    Ok(())
 }
 
-fn main(rt: HostRuntime) -> Result<(), AllocError> {
-    let text = read_input(rt.alloc(), &rt);
+fn main(rt: HostRuntime) {
+    let mut text = [0u8; INPUT_ROOM];
+    let mut file = [0u8; FILE_ROOM];
+    let mut image = [0u8; IMAGE_ROOM];
     let mut case = Case {
-        file: Vec::new(rt.alloc()),
-        image: Vec::new(rt.alloc()),
+        file: Buffer::new(&mut file),
+        image: Buffer::new(&mut image),
     };
-    for line in text.split_inclusive(|b| *b == b'\n') {
+    for line in read_input(&rt, &mut text).split_inclusive(|b| *b == b'\n') {
         if let Some(line) = line.strip_suffix(b"\n") {
-            step(&rt, line, &mut case)?;
+            step(&rt, line, &mut case);
         }
     }
-    Ok(())
 }

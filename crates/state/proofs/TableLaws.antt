@@ -49,6 +49,12 @@ pub empty_sizes : (t : Table) (n : ℕ) → n ≡ min t.count most_stashes → n
 unfolding held_in
 empty_sizes t n e l = rw e (empty_entries t.hashes t.sizes 0 (min t.count most_stashes) (omega arith))
 
+pub held-entries : (t : Table) (n : ℕ) → n ≡ min t.count most_stashes → held_in t ≡ entries t.hashes t.sizes 0 (n - 0)
+unfolding held_in
+held-entries t n e =
+    let f : n - 0 ≡ min t.count most_stashes = omega arith in
+    rw f
+
 pub length-held : (t : Table) → length (held_in t) ≡ min t.count most_stashes
 unfolding held_in
 length-held t = length-entries _ _ _ _

@@ -1,12 +1,14 @@
 -- Laws of what a command does to the lent areas: every area keeps its length, and the numbers that a command can stop with.
 -- Assumes nothing.
-use Rattle.std.proofs.Common.{◌≡◌, ℕ, ◌*◌, ◌/◌, ◌≤◌, Bool, true, false, ◌⊎◌, List, length, take, sym, refl, ◌∙◌, subst, inl, inr, ⊎_elim, arith, length-take}
+use Rattle.std.proofs.Common.{◌≡◌, ℕ, ◌+◌, ◌*◌, ◌/◌, ◌≤◌, Bool, true, false, eqb, ◌⊎◌, List, length, take, sym, refl, ◌∙◌, subst, inl, inr, ⊎_elim, arith, length-take}
+use Rattle.std.specs.Prelude.{Option, Some, None}
 use Rattle.text.proofs.ChoiceLaws.{picks}
 use Rattle.ranges.specs.Walk.{blocks_at, AllBelow}
 use Rattle.ranges.specs.declared.RangeSet.{RangeSet}
 use Rattle.state.specs.Limits.{block_bytes}
 use Rattle.state.specs.Refusals.{none, hash_differs, patch_malformed}
-use Rattle.state.specs.Stashes.{Stash, blocks_held}
+use Rattle.state.specs.Stashes.{Stash, find_in, size_at, blocks_held, stash_start, younger}
+use Rattle.state.proofs.StashLaws.{blocks_held-before}
 use Rattle.command.specs.declared.Command.{Command}
 use Rattle.command.specs.declared.Command.TheVariants as command
 use Rattle.command.specs.declared.source.Source.{Source}
@@ -18,11 +20,11 @@ use Rattle.copy.specs.Over.{over}
 use Rattle.copy.proofs.OverLaws.{length_over}
 use Rattle.updater.specs.Areas.{Areas, with_image, with_stash, with_work, with_result, SameLengths}
 use Rattle.updater.specs.Bytes.{written}
-use Rattle.updater.specs.Source.{supplied, together, hashes_to}
+use Rattle.updater.specs.Source.{supplied, together, hashes_to, closed_up}
 use Rattle.updater.specs.Effect.{Effect, InRun, hash_refusal, move_filled, stash_filled, patch_of, result_made, result_filled, patch_filled, bsdiff_filled, filled}
-use Rattle.updater.specs.Effect.{zeros_written, written_from}
+use Rattle.updater.specs.Effect.{zeros_written, written_from, closed_found, is_finished, filled_written, unfinished_effect, effect}
 use Rattle.updater.specs.Runnable.{Keeps, InImage, BsdiffRuns, StashRuns, Runnable}
-use Rattle.updater.proofs.ByteLaws.{length-zeroed, length-written}
+use Rattle.updater.proofs.ByteLaws.{length-zeroed, length-written, length-moved_down}
 use Rattle.updater.proofs.SourceLaws.{length-supplied, length-together}
 
 -- ---- every area keeps its length
@@ -127,6 +129,43 @@ module _ (l : List ℕ) (xs : List Stash) (a b : Areas) (e : SameLengths a b) wh
   written_from-lengths command.Unsupported h = e
   written_from-lengths (command.Bad p) h = e
 
+-- a whole line
+module _ (l : List ℕ) (xs : List Stash) (hash : List ℕ) (a : Areas) where
+  filled_written-lengths : (c : Command) → Keeps xs a.stash → Runnable l xs a c → SameLengths a (filled_written l xs hash c a).areas
+  unfolding filled_written
+  filled_written-lengths c k h =
+      let f = filled-lengths l xs hash a c k h in
+      picks (λ (x : Effect). SameLengths a x.areas) (eqb (filled l xs hash c a).refusal none) _ _
+      (λ g. written_from-lengths l xs a (filled l xs hash c a).areas f c h)
+      (λ g. f)
+
+  closed_length : (f : Option ℕ) → Keeps xs a.stash → length (closed_found xs a.stash f) ≡ length a.stash
+  unfolding closed_up
+  closed_length (Some j) k =
+      length-moved_down a.stash (block_bytes * stash_start xs j) (block_bytes * (stash_start xs j + size_at xs j)) (block_bytes * younger xs j)
+      (omega arith)
+      (omega (arith, blocks_held-before xs j, k.room))
+  closed_length None k = refl
+
+  unfinished_lengths : (c : Command) → Keeps xs a.stash → Runnable l xs a c → SameLengths a (unfinished_effect l xs hash c a).areas
+  unfolding unfinished_effect Runnable
+  unfinished_lengths (command.Zero set) k h = zeros-lengths l a set h
+  unfinished_lengths (command.Erase set) k h = zeros-lengths l a set h
+  unfinished_lengths (command.New set) k h = lengths_refl a
+  unfinished_lengths (command.Move target n source) k h = filled_written-lengths (command.Move target n source) k h
+  unfinished_lengths (command.Bsdiff target n source) k h = filled_written-lengths (command.Bsdiff target n source) k h
+  unfinished_lengths (command.Stash set) k h = filled_written-lengths (command.Stash set) k h
+  unfinished_lengths command.Free k h = stash-area-lengths a (closed_length (find_in xs hash) k)
+  unfinished_lengths command.Unsupported k h = lengths_refl a
+  unfinished_lengths (command.Bad p) k h = lengths_refl a
+
+  pub effect-lengths : (c : Command) → Keeps xs a.stash → Runnable l xs a c → SameLengths a (effect l xs hash c a).areas
+  unfolding effect
+  effect-lengths c k h =
+      picks (λ (x : Effect). SameLengths a x.areas) (is_finished l hash c a.image) _ _
+      (λ e. lengths_refl a)
+      (λ e. unfinished_lengths c k h)
+
 -- ---- a command is done, a hash differs, or a patch is malformed
 
 -- a number that a command stops with is one
@@ -167,3 +206,25 @@ module _ (l : List ℕ) (xs : List Stash) (hash : List ℕ) where
   filled-refusal command.Free a = inl refl
   filled-refusal command.Unsupported a = inl refl
   filled-refusal (command.Bad p) a = inl refl
+
+  filled_written-stops : (c : Command) (a : Areas) → Stops (filled_written l xs hash c a).refusal
+  unfolding filled_written
+  filled_written-stops c a =
+      picks (λ (x : Effect). Stops x.refusal) (eqb (filled l xs hash c a).refusal none) _ _ (λ g. inl refl) (λ g. filled-refusal c a)
+
+  unfinished_stops : (c : Command) (a : Areas) → Stops (unfinished_effect l xs hash c a).refusal
+  unfolding unfinished_effect
+  unfinished_stops (command.Zero set) a = inl refl
+  unfinished_stops (command.Erase set) a = inl refl
+  unfinished_stops (command.New set) a = inl refl
+  unfinished_stops (command.Move target n source) a = filled_written-stops (command.Move target n source) a
+  unfinished_stops (command.Bsdiff target n source) a = filled_written-stops (command.Bsdiff target n source) a
+  unfinished_stops (command.Stash set) a = filled_written-stops (command.Stash set) a
+  unfinished_stops command.Free a = inl refl
+  unfinished_stops command.Unsupported a = inl refl
+  unfinished_stops (command.Bad p) a = inl refl
+
+  pub effect-refusal : (c : Command) (a : Areas) → ((effect l xs hash c a).refusal ≡ none) ⊎ InRun (effect l xs hash c a).refusal
+  unfolding effect
+  effect-refusal c a =
+      picks (λ (x : Effect). Stops x.refusal) (is_finished l hash c a.image) _ _ (λ e. inl refl) (λ e. unfinished_stops c a)

@@ -11,5 +11,8 @@ overflow_add-taken c =
     let w : c.loop.taken + c.call-called.result.taken ≤ length c.args.piece.now = within _ _ _ c.loop.invariant (call-most _ _ _ c.call-called.ensures) in
     omega arith
 
+pub returns-then-not-is_stop : goal.returns-then-not-is_stop
+returns-then-not-is_stop c = within _ _ _ c.loop.invariant (call-most _ _ _ c.call-called.ensures)
+
 pub loop-preserved : goal.loop-preserved
 loop-preserved c = within _ _ _ c.loop.invariant (call-most _ _ _ c.call-called.ensures)

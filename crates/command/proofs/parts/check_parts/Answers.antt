@@ -1,13 +1,13 @@
 -- `command::parts::check_parts` meets its contract.
 use Prim.Native.Nat.{ℕ, suc, ◌-◌, ◌<◌}
 use native.Mathlib.Omega.{arith}
-use Rattle.std.proofs.Common.{rules}
 use mathlib.Core.Path.{◌≡◌, refl, sym, ap, ◌∙◌}
 use mathlib.Core.List.{List}
 use lib.ListN.{length}
 use Rattle.std.specs.Prelude.{Option, Some, None, Ok, Err}
 use Rattle.ranges.specs.Ranges.{least_blocks}
 use Rattle.command.specs.declared.parts.Part.{Part}
+use Rattle.command.specs.declared.parts.BadPart.{BadPart}
 use Rattle.command.specs.Parts.{part_at, parts_in, parts_at}
 use Rattle.command.proofs.PartLaws.{part_next}
 use Rattle.command.proofs.parts.check_parts.Invariants.{Checking, CheckingNext, left}
@@ -30,7 +30,7 @@ module _ (l : List ℕ) (first at : ℕ) (k : Checking l first at) where
           }
       go None f = sym k.same ∙ rw (e, f)
 
-  checking_bad : {q : ℕ} → part_at least_blocks l at ≡ Err q → Err q ≡ parts_at least_blocks l first
+  checking_bad : {q : BadPart} → part_at least_blocks l at ≡ Err q → Err q.at ≡ parts_at least_blocks l first
   unfolding parts_in
   checking_bad e = rw e at k.same
 
@@ -46,14 +46,13 @@ pub loop-next-init : goal.loop-next-init
 unfolding parts_at
 loop-next-init c = record { n = length c.args.l.now; enough = omega arith; same = refl }
 
-pub returns-in_err-next : goal.returns-in_err-next
-returns-in_err-next c =
-    let e : c.from_residual.result ≡ Err c.in_err-next.field-0.0 = search rules in
-    e ∙ checking_bad c.args.l.now c.args.first c.in-Some.at (rw c.in-Some.is at c.loop-next.invariant) (sym (c.in_err-next.ensures))
+pub returns-in-Err : goal.returns-in-Err
+returns-in-Err c =
+    checking_bad c.args.l.now c.args.first c.in-Some.at (rw c.in-Some.is at c.loop-next.invariant) (sym (c.in-Err.ensures))
 
 pub loop-next-smaller : goal.loop-next-smaller
-loop-next-smaller c = further c.args.l.now c.in-Some.at (sym (c.in_ok-next.ensures)) c.in-Some.is
+loop-next-smaller c = further c.args.l.now c.in-Some.at (sym (c.in-Ok.ensures)) c.in-Some.is
 
 pub loop-next-preserved : goal.loop-next-preserved
 loop-next-preserved c =
-    checking_more c.args.l.now c.args.first c.in-Some.at (rw c.in-Some.is at c.loop-next.invariant) (sym (c.in_ok-next.ensures))
+    checking_more c.args.l.now c.args.first c.in-Some.at (rw c.in-Some.is at c.loop-next.invariant) (sym (c.in-Ok.ensures))

@@ -11,6 +11,7 @@ use Rattle.ranges.specs.Ranges.{least_again}
 use Rattle.state.specs.Stashes.{Stash}
 use Rattle.state.specs.Sums.{bound, bounded}
 use Rattle.command.specs.declared.parts.Part.{Part}
+use Rattle.command.specs.declared.parts.BadPart.{BadPart}
 use Rattle.command.specs.Parts.{StashUse, part_at, uses_at}
 use Rattle.command.proofs.PartLaws.{NamedFrom, NamedNext, named_start, named_next, named_bad}
 use Rattle.rules.specs.declared.moves.Sums.{Sums}
@@ -54,11 +55,11 @@ module _ {l : List ℕ} {first : ℕ} {held : List Stash} {sums : Sums} {next : 
   unfolding sums_from
   summing_done e = sym (ap (sums_from held sums) (subst (λ (n : Option ℕ). NamedNext l n k.left) e k.text)) ∙ k.same
 
-  module _ {at : ℕ} (here : next ≡ Some at) {r : Result Part ℕ} (read : r ≡ part_at least_again l at) where
+  module _ {at : ℕ} (here : next ≡ Some at) {r : Result Part BadPart} (read : r ≡ part_at least_again l at) where
     from : NamedFrom l at k.left
     from = subst (λ (n : Option ℕ). NamedNext l n k.left) here k.text
 
-    summing_bad : {q : ℕ} → r ≡ Err q → sums ≡ sums_of held (uses_at l first)
+    summing_bad : {q : BadPart} → r ≡ Err q → sums ≡ sums_of held (uses_at l first)
     unfolding sums_from
     summing_bad f = sym (ap (sums_from held sums) (named_bad from (sym read ∙ f))) ∙ k.same
 

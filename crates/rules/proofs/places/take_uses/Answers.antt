@@ -7,6 +7,7 @@ use Rattle.std.specs.Prelude.{Option, Some, None, Result, Ok, Err}
 use Rattle.ranges.specs.Ranges.{least_again}
 use Rattle.ranges.specs.Walk.{blocks_at}
 use Rattle.command.specs.declared.parts.Part.{Part}
+use Rattle.command.specs.declared.parts.BadPart.{BadPart}
 use Rattle.command.specs.Parts.{part_at, uses_at}
 use Rattle.command.proofs.PartLaws.{NamedFrom, NamedNext, named_start, named_next, named_bad}
 use Rattle.rules.specs.Move.{places_of}
@@ -24,11 +25,11 @@ module _ {l : List ℕ} {n : ℕ} {before all marks : List ℕ} {next : Option �
   unfolding places_of
   naming_done e = pass-done (pass-left (ap (places_of l) (subst (λ (n : Option ℕ). NamedNext l n k.ps) e k.from)) k.pass)
 
-  module _ {at : ℕ} (here : next ≡ Some at) {r : Result Part ℕ} (read : r ≡ part_at least_again l at) where
+  module _ {at : ℕ} (here : next ≡ Some at) {r : Result Part BadPart} (read : r ≡ part_at least_again l at) where
     from : NamedFrom l at k.ps
     from = subst (λ (n : Option ℕ). NamedNext l n k.ps) here k.from
 
-    naming_bad : {q : ℕ} → r ≡ Err q → Takes n before marks all true
+    naming_bad : {q : BadPart} → r ≡ Err q → Takes n before marks all true
     unfolding places_of
     naming_bad f = pass-done (pass-left (ap (places_of l) (named_bad from (sym read ∙ f))) k.pass)
 

@@ -1,5 +1,5 @@
 -- `sha1_digest::schedule::schedule` meets its contract.
-use Rattle.std.proofs.Common.{◌≡◌, sym, refl, ◌∙◌, arith, length-set, take_all}
+use Rattle.std.proofs.Common.{◌≡◌, sym, refl, ◌∙◌, zero-add, arith, length-set, take_all}
 use Rattle.sha1_digest.specs.Sha1 as S
 use Rattle.sha1_digest.proofs.ScheduleLaws.{next_first, next_later, schedule_more}
 use Rattle.sha1_digest.proofs.schedule.schedule.Goals as goal
@@ -12,9 +12,10 @@ pub first-preserved : goal.first-preserved
 first-preserved c =
     let l = c.first in
     let p = c.args.block.now in
+    let first = next_first p 0 (S.schedule p 0 l.t) l.t (omega arith) in
     record {
       len = length-set _ _ _ ∙ l.invariant.len;
-      words = schedule_more p 0 l.t l.w c.load.result (omega arith) l.invariant.words (c.load.ensures ∙ sym (next_first p _ l.t (omega arith)));
+      words = schedule_more p 0 l.t l.w c.load.result (omega arith) l.invariant.words (c.load.ensures ∙ sym (rw zero-add at first));
     }
 
 pub later-init : goal.later-init

@@ -5,6 +5,7 @@ use Rattle.ranges.specs.Walk.{blocks_at}
 use Rattle.state.specs.Limits.{block_bytes}
 use Rattle.state.specs.Stashes.{Stash}
 use Rattle.command.specs.declared.parts.Part.{Part}
+use Rattle.command.specs.declared.parts.BadPart.{BadPart}
 use Rattle.command.specs.Parts.{StashUse, part_at, uses_at}
 use Rattle.command.proofs.PartLaws.{NamedFrom, NamedNext, named_start, named_next, named_bad}
 use Rattle.rules.proofs.UseLaws.{unread-less}
@@ -21,11 +22,11 @@ module _ {l : List ℕ} {xs : List Stash} {stash : List ℕ} {first : ℕ} {work
   all-done : next ≡ None → work ≡ spread l xs stash (uses_at l first) work₀
   all-done e = sym (spread-done l xs stash (subst (λ (n : Option ℕ). NamedNext l n k.ps) e k.from) work) ∙ k.same
 
-  module _ {at : ℕ} (here : next ≡ Some at) {r : Result Part ℕ} (read : r ≡ part_at least_again l at) where
+  module _ {at : ℕ} (here : next ≡ Some at) {r : Result Part BadPart} (read : r ≡ part_at least_again l at) where
     from : NamedFrom l at k.ps
     from = subst (λ (n : Option ℕ). NamedNext l n k.ps) here k.from
 
-    bad-done : {q : ℕ} → r ≡ Err q → work ≡ spread l xs stash (uses_at l first) work₀
+    bad-done : {q : BadPart} → r ≡ Err q → work ≡ spread l xs stash (uses_at l first) work₀
     bad-done f = sym (spread-done l xs stash (named_bad from (sym read ∙ f)) work) ∙ k.same
 
     module _ {p : Part} (f : r ≡ Ok p) where
